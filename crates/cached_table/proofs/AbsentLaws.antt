@@ -22,8 +22,8 @@ use Rattle.name_page.proofs.LookLaws.{agrees_at}
 use Rattle.name_btree.specs.Lookup.{HasOtherLeft, HasRight, IsLeafBy, IsNextAfter, IsReadLeaf, ShowsAbsent, ShowsNext, ShowsNoVersion, ShowsNoneAfter}
 use Rattle.name_btree.proofs.ways.ChildLaws.{between}
 use Rattle.version_table.proofs.EditLaws.{with_is}
-use Rattle.volume_contract.specs.Absent.{LacksKey, LacksLater, ReachesPage}
-use Rattle.volume_contract.specs.Found.{BeginsWith, HasNext}
+use Rattle.fsd_sound.specs.Lookups.{LacksKey, LacksLater, HasNext}
+use Rattle.fsd_table.specs.Reached.{ReachesPage, BeginsWith}
 use Rattle.cached_table.specs.Absent.{EndsOther, LacksName}
 use Rattle.sector_disk.specs.declared.machine.Machine.{Ghosts as MachineGhosts}
 use Rattle.page_cache.specs.declared.source.PageSource.{Ghosts as SourceGhosts}

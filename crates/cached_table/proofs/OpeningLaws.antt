@@ -19,7 +19,7 @@ use Rattle.sector_disk.specs.declared.machine.Machine.{Ghosts as MachineGhosts}
 use Rattle.sector_disk.specs.Calls.{OnlyReads}
 use Rattle.sector_disk.specs.declared.machine.LoadFault.TheVariants as load
 use Rattle.sector_disk.specs.Machine.{Wears}
-use Rattle.fsd_table.specs.Breaks.{Breaks}
+use Rattle.fsd_table.specs.Breaks.{Breaks, BreaksAt}
 use Rattle.fsd_table.specs.Table.{Visit, told_in, visits}
 use Rattle.fsd_sound.specs.Lost.{AreHomes, LostIn}
 use Rattle.fsd_sound.specs.Mounted.{image_at as page_in}
@@ -40,7 +40,6 @@ use Rattle.table_pages.specs.Reads.{LosesFor, outer_device}
 use Rattle.table_pages.specs.Table.{fresh_step}
 use Rattle.table_survey.specs.Survey.{IsSurveyed, visited}
 use Rattle.table_survey.specs.declared.surveying.TableCounts.{TableCounts}
-use Rattle.volume_contract.specs.Mount.{BreaksAt}
 use Rattle.cached_table.specs.HomeLaws.{home_stays, past_homes}
 use Rattle.cached_table.specs.Homes.{KnowsHomes, home_by}
 use Rattle.cached_table.specs.Looking.{BarsPages, images_by}

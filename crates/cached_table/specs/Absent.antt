@@ -8,7 +8,7 @@ use Rattle.fsd_table.specs.Table.{Visit}
 use Rattle.name_page.specs.Cut.{AtHigh, AtLow, is_before}
 use Rattle.name_page.specs.declared.cut.Cut.TheVariants.{Named}
 use Rattle.name_page.specs.Lookups.{last_that, same_name}
-use Rattle.volume_contract.specs.Absent.{ReachesPage}
+use Rattle.fsd_table.specs.Reached.{ReachesPage}
 
 -- a leaf that keeps within its bounds, which end where those of another begin, and whose last entry has another name
 pub record EndsOther (name : List ℕ) (v w : Visit) : Type 0 where

@@ -12,8 +12,8 @@ use Rattle.page_cache.specs.Cache.{CacheValue}
 use Rattle.name_page.specs.Lookups.{is_after}
 use Rattle.name_btree.specs.declared.fault.TreeFault.{TreeFault}
 use Rattle.name_btree.specs.declared.lookup.FoundEntry.{FoundEntry}
-use Rattle.volume_contract.specs.Absent.{LacksKey, LacksLater, ReachesPage}
-use Rattle.volume_contract.specs.Found.{HasNext}
+use Rattle.fsd_sound.specs.Lookups.{LacksKey, LacksLater, HasNext}
+use Rattle.fsd_table.specs.Reached.{ReachesPage}
 use Rattle.cached_table.specs.Absent.{LacksName}
 use Rattle.cached_table.specs.Looking.{FaultsOver, HasAllUsed, HasEnoughIn, HasPathIn, HavePages, LeadsTo, ShowsFault}
 

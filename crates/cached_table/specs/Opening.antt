@@ -5,7 +5,7 @@ use Rattle.volume_layout.specs.Layout.{data_start}
 use Rattle.sector_set.specs.Area.{area}
 use Rattle.page_cache.specs.Cache.{cached_bytes, no_pages, pins_of}
 use Rattle.table_pages.specs.Kept.{images_given}
-use Rattle.fsd_table.specs.Breaks.{Breaks}
+use Rattle.fsd_table.specs.Breaks.{Breaks, BreaksAt}
 use Rattle.fsd_table.specs.Table.{Telling, told_in}
 use Rattle.fsd_files.specs.Disk.{Image}
 use Rattle.fsd_files.specs.Space.{Apart}
@@ -15,7 +15,6 @@ pub use Rattle.fsd_sound.specs.Saved.{is_reached}
 use Rattle.fsd_sound.specs.declared.fault.MountFault.{MountFault}
 use Rattle.fsd_sound.specs.declared.fault.MountFault.TheVariants.{Device, Lost, Memory, Unsound}
 use Rattle.table_survey.specs.Claims.{whole_area}
-use Rattle.volume_contract.specs.Mount.{BreaksAt}
 use Rattle.cached_table.specs.Homes.{home_by}
 use Rattle.cached_table.specs.Surveying.{IsOfData}
 use Rattle.cached_table.specs.declared.opening.Opened.{Opened}

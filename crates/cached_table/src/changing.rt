@@ -11,7 +11,7 @@ ghost use Rattle.name_page.specs.Looks.{ChangesPages, HasAllIn, OnlyEdits};
 ghost use Rattle.name_page.specs.Pages.{changes};
 ghost use Rattle.version_table.specs.Fault.{outer_met};
 ghost use Rattle.table_pages.specs.Kept.{IsReady};
-ghost use Rattle.volume_contract.specs.Absent.{ReachesPage};
+ghost use Rattle.fsd_table.specs.Reached.{ReachesPage};
 ghost use Rattle.cached_table.specs.Absent.{LacksName};
 ghost use Rattle.cached_table.specs.Looking.{HasEnoughIn, HavePages};
 ghost use Rattle.cached_table.specs.Editing.{FaultsEdit, DirtiesAtMost, EditsOnly, EditsTable, GivesKeep, GivesKeepIn, KeepsNone, KeepsNoneIn, StaysInCache};

@@ -12,9 +12,10 @@ use Rattle.fsd_formats.specs.NamePage.{sectors_for}
 use Rattle.fsd_files.specs.Desk.{is_client}
 use Rattle.fsd_files.specs.Disk.{Sectors}
 use Rattle.fsd_files.specs.Kept.{data_sectors}
-use Rattle.volume_contract.specs.Absent.{LacksKey, ShowsReached}
+use Rattle.fsd_sound.specs.Lookups.{LacksKey}
+use Rattle.volume_contract.specs.Found.{ShowsReached}
 use Rattle.volume_contract.specs.Causes.{Causes}
-use Rattle.volume_contract.specs.Found.{HasEntry}
+use Rattle.fsd_table.specs.Reached.{HasEntry}
 use Rattle.volume_contract.specs.Order.{KeepsRefused, CallStep, Test, reserve_steps, slices_steps, enter_steps, entry_steps, held_steps}
 use Rattle.volume_contract.specs.Pieces.{IsDraft, IsHeldVersion, Enters, GivesBack, HoldsAt, Reserves, Unholds, in_leader}
 use Rattle.volume_contract.specs.State.{GoesOn, HasCounted, State, downs, downs_for, forces_first, most_readers, no_readers}

@@ -7,12 +7,15 @@ pub mod GoodLaws
 pub mod HereLaws
 pub mod JudgedLaws
 pub mod LaidLaws
+pub mod MovedLaws
 pub mod OutlastLaws
 pub mod PlaceLaws
 pub mod PlainLaws
 pub mod ReachLaws
 pub mod RecordFacts
 pub mod RobustLaws
+pub mod ShiftLaws
+pub mod SlotLaws
 pub mod TornLaws
 pub mod WalkLaws
 pub mod WornLaws

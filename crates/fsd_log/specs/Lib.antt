@@ -4,7 +4,9 @@ pub mod Good
 pub mod Images
 pub mod Judged
 pub mod Laid
+pub mod Moves
 pub mod Places
 pub mod Plain
 pub mod Reach
 pub mod Scan
+pub mod Slots

@@ -5,6 +5,7 @@ pub mod Format
 pub mod Homes
 pub mod Laid
 pub mod Logged
+pub mod Lookups
 pub mod Lost
 pub mod Mounting
 pub mod Mounted

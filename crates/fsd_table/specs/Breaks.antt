@@ -2,7 +2,7 @@
 use Rattle.std.specs.Prelude.{◌≡◌, ◌⊎◌, ℕ, Bool, not, ◌||◌, List, filter, IsTrue}
 use Rattle.std.specs.List.{flat_map, list_any, Contains}
 use Rattle.volume_layout.specs.declared.layout.Layout.{Layout}
-use Rattle.volume_layout.specs.Layout.{is_data}
+use Rattle.volume_layout.specs.Layout.{home_a, is_data}
 use Rattle.run_table.specs.RunTable.{sectors_of}
 use Rattle.run_table.specs.Space.{contains, all_differ}
 use Rattle.fsd_bytes.specs.declared.key.Key.{Key}
@@ -33,3 +33,7 @@ pub record BreaksSectors (l : Layout) (pages : List (List ℕ)) (page : ℕ) : T
 -- The page is reached from page 0, and breaks the table: its order or shape, or by the sectors of an entry.
 abbrev pub Breaks : Layout → List (List ℕ) → ℕ → Type 0
 Breaks l pages page = BreaksTable pages page ⊎ BreaksSectors l pages page
+
+-- a page of these at this home breaks the table
+abbrev pub BreaksAt : Layout → List (List ℕ) → ℕ → Type 0
+BreaksAt l pages s = (page : ℕ) × (s ≡ home_a l page) × Breaks l pages page

@@ -1,4 +1,5 @@
 pub mod Breaks
 pub mod Pages
+pub mod Reached
 pub mod Table
 pub mod Tree

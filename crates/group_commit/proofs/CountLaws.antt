@@ -6,8 +6,8 @@ use Rattle.std.proofs.lemmas.List.{take_all}
 use Rattle.std.proofs.lemmas.List.Sums.{count_by_more_no, count_by_more_yes, sum_by-take-le}
 use Rattle.sector_disk.specs.Machine.{Ledger, wrote}
 use Rattle.sector_disk.specs.Written.{WroteMost}
-use Rattle.log_thirds.specs.declared.slots.Slot.{Slot}
-use Rattle.log_thirds.specs.Slots.{lies_in, IsLeastIn, NoneLiesIn}
+use Rattle.fsd_log.specs.declared.slot.Slot.{Slot}
+use Rattle.fsd_log.specs.Slots.{lies_in, IsLeastIn, NoneLiesIn}
 
 module _ (p : Option Slot → Bool) (slots : List (Option Slot)) where
   gap_by : (from d : ℕ) → from + d ≤ length slots → ((q : ℕ) → from ≤ q → q < from + d → p (get_or slots q None) ≡ false) → count_by p (take (from + d) slots) ≡ count_by p (take from slots)

@@ -31,15 +31,16 @@ use Rattle.fsd_sound.specs.Shown.{records_by}
 use Rattle.fsd_sound.specs.Sound.{on_disk, IsSuffix, EachStamp, ShowsPages, weak_of}
 use Rattle.fsd_sound.proofs.LogPlaces.{IsRecord, SameLog, has_same, scan_records}
 use Rattle.fsd_sound.proofs.SoundLaws.{shows_still, each_anchor_after}
-use Rattle.log_thirds.specs.declared.slots.Slot.{Slot}
+use Rattle.fsd_log.specs.declared.slot.Slot.{Slot}
 use Rattle.log_thirds.specs.Anchoring.{AnchorsIn, with_anchors}
 use Rattle.log_thirds.specs.Append.{IsIndexed, IsLogWorn, LastLiesIn}
 use Rattle.log_thirds.specs.LogValue.{LogValue}
-use Rattle.log_thirds.specs.Moves.{moved_back}
-use Rattle.log_thirds.specs.Moving.{next_third, moved_anchor, moved, records_moved, EndsInLastThird}
-use Rattle.log_thirds.specs.Slots.{lies_in, last_slot}
+use Rattle.fsd_log.specs.Moves.{moved_back, next_third, records_moved}
+use Rattle.log_thirds.specs.Moving.{moved_anchor, moved, EndsInLastThird}
+use Rattle.fsd_log.specs.Slots.{lies_in, last_slot}
 use Rattle.log_thirds.proofs.ImageLaws.{no_last_image}
-use Rattle.log_thirds.proofs.MovingLaws.{MayMove, LiesOn, IsParted, parted, place_back, next_is, next_low, later_first, log_moved, front_slots, slot_of-joined, all_right}
+use Rattle.log_thirds.proofs.MovingLaws.{MayMove, parted, later_first, log_moved}
+use Rattle.fsd_log.proofs.MovedLaws.{LiesOn, IsParted, place_back, next_is, next_low, front_slots, slot_of-joined, all_right}
 use Rattle.fsd_sound.specs.Stands.{StandsShown}
 use Rattle.fsd_sound.proofs.CommuteLaws.{with_same, with_other, worn_or_over, shows_all, both_same, all_shows}
 use Rattle.fsd_sound.proofs.CoverLaws.{copies_alike, stand_any}

@@ -14,8 +14,8 @@ use Rattle.fsd_sound.specs.Shown.{records_by}
 use Rattle.fsd_sound.specs.Windows.{IsApart}
 use Rattle.fsd_sound.proofs.LogPlaces.{IsRecord, scan_records}
 use Rattle.fsd_sound.proofs.TwiceLaws.{image_stands, one_is, not_both}
-use Rattle.log_thirds.specs.declared.slots.Slot.{Slot}
-use Rattle.log_thirds.specs.Slots.{last_slot}
+use Rattle.fsd_log.specs.declared.slot.Slot.{Slot}
+use Rattle.fsd_log.specs.Slots.{last_slot}
 use Rattle.log_thirds.proofs.GivesLaws.{EachImage, Gives, slot_gives}
 
 module _ (l : Layout) (a : Anchor) (weak : Sectors) (i : Image) where

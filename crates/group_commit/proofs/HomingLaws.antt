@@ -30,9 +30,9 @@ use Rattle.fsd_sound.proofs.LogPlaces.{SameLog, IsRecord, has_same, same_tape, f
 use Rattle.fsd_sound.proofs.SoundLaws.{shows_still}
 use Rattle.fsd_sound.proofs.WindowLaws.{open_is_weak}
 use Rattle.log_thirds.specs.Append.{IsLogWorn, LastLiesIn}
-use Rattle.log_thirds.specs.Images.{AreLogged, LiesAt, StandsInSlot}
+use Rattle.log_thirds.specs.Images.{AreLogged, StandsInSlot}
+use Rattle.fsd_log.specs.Slots.{LiesAt, last_slot}
 use Rattle.log_thirds.specs.LogValue.{LogValue}
-use Rattle.log_thirds.specs.Slots.{last_slot}
 use Rattle.fsd_sound.specs.Homes.{home_of, IsAtHome}
 use Rattle.group_commit.proofs.StandsLaws.{page_shown}
 use Rattle.std.specs.Option.{option_or}

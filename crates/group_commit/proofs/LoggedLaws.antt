@@ -19,12 +19,12 @@ use Rattle.fsd_log.specs.Scan.{place_of, spot_for}
 use Rattle.fsd_log.proofs.PlaceLaws.{place_from}
 use Rattle.log_thirds.specs.Append.{log_with, stamp_now}
 use Rattle.log_thirds.specs.LogValue.{LogValue}
-use Rattle.log_thirds.specs.Slots.{slot_in}
-use Rattle.log_thirds.specs.declared.slots.Slot.{Slot}
+use Rattle.fsd_log.specs.Slots.{slot_in}
+use Rattle.fsd_log.specs.declared.slot.Slot.{Slot}
 use Rattle.log_thirds.proofs.MomentLaws.{MayAppend, laid, write_inside}
-use Rattle.log_thirds.proofs.SlotLaws.{get-noted}
+use Rattle.fsd_log.proofs.SlotLaws.{get-noted}
 use Rattle.page_cache.specs.Cache.{CacheValue, cached_bytes, is_among}
-use Rattle.log_thirds.specs.Logged.{StandsLogged}
+use Rattle.fsd_sound.specs.Logged.{StandsLogged}
 use Rattle.group_commit.proofs.FrameLaws.{not_before}
 use Rattle.group_commit.proofs.ImageLaws.{below_at, pages_of}
 use Rattle.group_commit.proofs.OrderLaws.{contained_index, index_contained}
@@ -87,7 +87,7 @@ module _ (log : LogValue) (pages images : List ℕ) (old new : Moment) (may : Ma
         record { start = place; count = length pages; index = k; there = lt; first = refl; copy = refl; from = from; to = omega (arith, inside) }
 
     -- each image stands at the two places that the page's slot has
-    pub stands_logged : length log.slots ≡ log.layout.pages → Holds old written new → StandsLogged (log_with log pages) new page (sector_in images k)
+    pub stands_logged : length log.slots ≡ log.layout.pages → Holds old written new → StandsLogged (log_with log pages).layout (log_with log pages).slots new page (sector_in images k)
     stands_logged table holds =
         let rows = laid log pages images (length old.image) may in
         record {
@@ -103,11 +103,11 @@ module _ (log : LogValue) (pages images : List ℕ) (old new : Moment) (may : Ma
 -- ---- the frames that it was laid from
 
 -- what stands so of each of some pages, said of a page and its bytes
-pub logged_of : (log : LogValue) (now : Moment) (c : CacheValue) (pages room : List ℕ) → ((k : ℕ) → k < length pages → StandsLogged log now (get_or pages k 0) (sector_in room k))
+pub logged_of : (log : LogValue) (now : Moment) (c : CacheValue) (pages room : List ℕ) → ((k : ℕ) → k < length pages → StandsLogged log.layout log.slots now (get_or pages k 0) (sector_in room k))
     → ((k : ℕ) → k < length pages → cached_bytes c (get_or pages k 0) ≡ Some (sector_in room k))
-    → (page : ℕ) (bytes : List ℕ) → contains pages page ≡ true → cached_bytes c page ≡ Some bytes → StandsLogged log now page bytes
+    → (page : ℕ) (bytes : List ℕ) → contains pages page ≡ true → cached_bytes c page ≡ Some bytes → StandsLogged log.layout log.slots now page bytes
 logged_of log now c pages room logged frames page bytes is has =
     let at = contained_index pages page is in
     let frame : cached_bytes c page ≡ Some (sector_in room at.index) = subst (λ (p : ℕ). cached_bytes c p ≡ Some (sector_in room at.index)) at.is (frames at.index at.inside) in
-    subst (λ (p : ℕ). StandsLogged log now p bytes) at.is
-    (subst (StandsLogged log now (get_or pages at.index 0)) (same_Some (sector_in room at.index) bytes (sym frame ∙ has)) (logged at.index at.inside))
+    subst (λ (p : ℕ). StandsLogged log.layout log.slots now p bytes) at.is
+    (subst (StandsLogged log.layout log.slots now (get_or pages at.index 0)) (same_Some (sector_in room at.index) bytes (sym frame ∙ has)) (logged at.index at.inside))

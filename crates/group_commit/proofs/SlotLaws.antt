@@ -10,9 +10,9 @@ use Rattle.fsd_formats.specs.Record.{ascending}
 use Rattle.fsd_log.specs.Scan.{place_of, spot_for}
 use Rattle.log_thirds.specs.Append.{log_with}
 use Rattle.log_thirds.specs.LogValue.{LogValue}
-use Rattle.log_thirds.specs.Slots.{slot_in}
-use Rattle.log_thirds.specs.declared.slots.Slot.{Slot}
-use Rattle.log_thirds.proofs.SlotLaws.{get-noted}
+use Rattle.fsd_log.specs.Slots.{slot_in}
+use Rattle.fsd_log.specs.declared.slot.Slot.{Slot}
+use Rattle.fsd_log.proofs.SlotLaws.{get-noted}
 use Rattle.group_commit.specs.Cached.{ascending_of}
 use Rattle.group_commit.proofs.ImageLaws.{ascending_tail, not_later}
 use Rattle.group_commit.proofs.OrderLaws.{ascending_ascends, length_ascending, one_ascending, rank, rank_ascending, rank_more}

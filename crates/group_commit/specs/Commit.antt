@@ -17,7 +17,7 @@ use Rattle.group_commit.specs.declared.force.ForcedPages.{ForcedPages}
 use Rattle.group_commit.specs.Cached.{AgreesWith, ascending_of, stamped_for, with_waiting}
 use Rattle.group_commit.specs.Entering.{LosesLogged, RecordCause}
 use Rattle.group_commit.specs.Force.{Committed, StandsOverDisk, log_forced, sectors_written, stamped_by}
-use Rattle.log_thirds.specs.Logged.{StandsLogged}
+use Rattle.fsd_sound.specs.Logged.{StandsLogged}
 use Rattle.group_commit.specs.Newest.{KnowsImages}
 use Rattle.group_commit.specs.Resident.{stamped}
 use Rattle.group_commit.specs.Room.{log_before, sectors_before}
@@ -70,7 +70,7 @@ pub record Forces {D : Type 0} (M : Ghosts D) (log after : LogValue) (c d : Cach
       AgreesWith log.layout c pages → M.honest new → EndIn (M.now old).windows windows →
       StandsOverDisk log records disk (with_waiting c pages) windows (M.now old).image →
       KnowsImages log (M.now old).image → KnowsImages after (M.now new).image
-  pub logged : M.honest new → (page : ℕ) (bytes : List ℕ) → IsTrue (contains c.dirty page) → cached_bytes d page ≡ Some bytes → StandsLogged after (M.now new) page bytes
+  pub logged : M.honest new → (page : ℕ) (bytes : List ℕ) → IsTrue (contains c.dirty page) → cached_bytes d page ≡ Some bytes → StandsLogged after.layout after.slots (M.now new) page bytes
 
 -- The dirty pages are stamped and stay dirty. Over a disk that shows pages none is lost.
 pub record ForceFails {D : Type 0} (M : Ghosts D) (log after : LogValue) (c d : CacheValue) (old new : D) (fault : LoadFault) : Type 0 where

@@ -19,7 +19,8 @@ use Rattle.fsd_sound.specs.Sound.{EndIn, ShowsPages, weak_of}
 use Rattle.log_thirds.specs.Append.{IsIndexed, LastLiesIn, stamp_now}
 use Rattle.log_thirds.specs.Images.{AreOfLogged}
 use Rattle.log_thirds.specs.LogValue.{LogValue, FitsLayout}
-use Rattle.log_thirds.specs.Moving.{moved, records_moved}
+use Rattle.log_thirds.specs.Moving.{moved}
+use Rattle.fsd_log.specs.Moves.{records_moved}
 use Rattle.fsd_sound.specs.Saved.{IsOpen}
 use Rattle.group_commit.specs.Force.{MayWrite, KeepsOutside}
 use Rattle.group_commit.specs.Room.{goes_before, log_before, pages_in_first, sectors_before}

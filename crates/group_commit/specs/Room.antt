@@ -5,7 +5,7 @@ use Rattle.volume_layout.specs.Kinds.{gap_of}
 use Rattle.fsd_formats.specs.Record.{record_len}
 use Rattle.log_thirds.specs.LogValue.{LogValue}
 use Rattle.log_thirds.specs.Moving.{moved}
-use Rattle.log_thirds.specs.Slots.{lies_in}
+use Rattle.fsd_log.specs.Slots.{lies_in}
 
 -- a record of so many pages lies before the first third
 abbrev pub goes_before : LogValue → (n : ℕ) → Bool

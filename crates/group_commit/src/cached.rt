@@ -10,7 +10,7 @@ ghost use Rattle.page_cache.specs.Cache.{IsCache, IsResident, cached_bytes};
 ghost use Rattle.group_commit.specs.Resident.{IsImageOf};
 ghost use Rattle.group_commit.specs.Commit.{ForceFails, Forces, LogsNoPages, LogsPages};
 ghost use Rattle.group_commit.specs.Force.{KeepsOutside};
-ghost use Rattle.log_thirds.specs.Logged.{StandsLogged};
+ghost use Rattle.fsd_sound.specs.Logged.{StandsLogged};
 ghost use Rattle.group_commit.specs.Cached.{AgreesWith, AreWaiting, CacheLeaves, FramesLeave, HasImages, ascending_of, stamped_frames};
 
 use crate::force::{ForcedPages, Group};
@@ -56,7 +56,7 @@ fn write_frames<M: Machine>(
     ensures cache { cache.new ≡ stamped_frames (stamp_now log.old) waiting.now cache.old }
     ensures done { OnOk result (LogsPages M.Machine log.old log.new (AgreesWith log.old.layout cache.old) waiting.now m.old m.new) }
     ensures failed { IfErr result (LogsNoPages M.Machine log.old log.new (AgreesWith log.old.layout cache.old) waiting.now m.old m.new) }
-    ensures logged { OnOk result (M.honest m.new → (page : ℕ) (bytes : List ℕ) → IsTrue (contains waiting.now page) → cached_bytes cache.new page ≡ Some bytes → StandsLogged log.new (M.now m.new) page bytes) }
+    ensures logged { OnOk result (M.honest m.new → (page : ℕ) (bytes : List ℕ) → IsTrue (contains waiting.now page) → cached_bytes cache.new page ≡ Some bytes → StandsLogged log.new.layout log.new.slots (M.now m.new) page bytes) }
 {
     lay_record(log, cache, waiting, room);
     write_record(m, log, waiting, room.images.as_slice())

@@ -7,7 +7,7 @@ ghost use Rattle.fsd_log.specs.Laid.{slices};
 ghost use Rattle.log_thirds.specs.Append.{stamp_now};
 ghost use Rattle.group_commit.specs.Commit.{LogsNoPages, LogsPages};
 ghost use Rattle.group_commit.specs.Force.{KeepsOutside};
-ghost use Rattle.log_thirds.specs.Logged.{StandsLogged};
+ghost use Rattle.fsd_sound.specs.Logged.{StandsLogged};
 ghost use Rattle.group_commit.specs.Cached.{HasImages, RecordLeaves};
 
 use crate::entering::make_room;
@@ -30,7 +30,7 @@ pub(crate) fn write_record<M: Machine>(
     ensures rest { M.honest m.new → KeepsOutside log.old.layout (M.now m.old) (M.now m.new) }
     ensures done { OnOk result (LogsPages M.Machine log.old log.new (HasImages log.old dirty.now room.now) dirty.now m.old m.new) }
     ensures failed { IfErr result (LogsNoPages M.Machine log.old log.new (HasImages log.old dirty.now room.now) dirty.now m.old m.new) }
-    ensures logged { OnOk result (M.honest m.new → EachIndex dirty.now (λ k. StandsLogged log.new (M.now m.new) (slice_index dirty.now k) (sector_in room.now k))) }
+    ensures logged { OnOk result (M.honest m.new → EachIndex dirty.now (λ k. StandsLogged log.new.layout log.new.slots (M.now m.new) (slice_index dirty.now k) (sector_in room.now k))) }
 {
     let layout = log.layout();
     // For the proof alone: its own call tells that a layout is planned.

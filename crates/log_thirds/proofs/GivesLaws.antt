@@ -7,8 +7,8 @@ use Rattle.volume_layout.specs.Shape.{Shape}
 use Rattle.volume_layout.specs.Kinds.{gap_of}
 use Rattle.fsd_log.specs.Scan.{Placed, place_of}
 use Rattle.fsd_log.specs.Images.{image_in, last_image}
-use Rattle.log_thirds.specs.declared.slots.Slot.{Slot}
-use Rattle.log_thirds.specs.Slots.{slot_in, slot_in_record, last_slot}
+use Rattle.fsd_log.specs.declared.slot.Slot.{Slot}
+use Rattle.fsd_log.specs.Slots.{slot_in, slot_in_record, last_slot}
 use Rattle.log_thirds.proofs.ImageLaws.{no_last_image}
 
 -- the page is one of these, at this place among them

@@ -13,7 +13,7 @@ use Rattle.fsd_log.specs.Images.{image_in, last_image}
 use Rattle.fsd_log.specs.Scan.{IsEnd, IsIn, Head, Placed, start, scan, place_of, tape, window, room_at}
 use Rattle.fsd_log.proofs.JudgedLaws.{is_judged, record_room}
 use Rattle.fsd_log.proofs.PlainLaws.{images_same}
-use Rattle.log_thirds.specs.declared.slots.Slot.{Slot}
+use Rattle.fsd_log.specs.declared.slot.Slot.{Slot}
 use Rattle.sector_disk.specs.declared.sector.Sector.TheVariants.{Whole}
 use Rattle.sector_disk.specs.Image.{sector_at}
 use Rattle.sector_disk.specs.Machine.{Moment}
@@ -21,9 +21,9 @@ use Rattle.sector_disk.proofs.Wear.{whole_of}
 use Rattle.log_thirds.specs.Disk.{reads}
 use Rattle.log_thirds.specs.LogValue.{LogValue}
 use Rattle.log_thirds.specs.Append.{IsCalmNow, IsIndexed, scan_of}
-use Rattle.log_thirds.specs.Images.{GivesSlot, LiesAt, SeesSlot, StandsInSlot, best_copy}
+use Rattle.log_thirds.specs.Images.{GivesSlot, SeesSlot, StandsInSlot, best_copy}
+use Rattle.fsd_log.specs.Slots.{LiesAt, slot_in, slot_in_record, last_slot}
 use Rattle.log_thirds.specs.Reading.{ReadWorn}
-use Rattle.log_thirds.specs.Slots.{slot_in, slot_in_record, last_slot}
 use Rattle.fsd_log.proofs.HereLaws.{here_some}
 use Rattle.fsd_log.proofs.PlaceLaws.{InThird, place_add, end_most}
 use Rattle.fsd_log.proofs.WalkLaws.{IsFound, Goes, found_goes_on, goes_of_walk}

@@ -5,17 +5,17 @@ use Rattle.volume_layout.specs.Shape.{Shape}
 use Rattle.volume_layout.specs.Kinds.{gap_of}
 use Rattle.fsd_formats.specs.Record.{Stamp}
 use Rattle.fsd_log.specs.Judged.{Reader, Logged, Serving, judged, logged_of, record_in}
-use Rattle.log_thirds.specs.declared.slots.Slot.{Slot}
+use Rattle.fsd_log.specs.declared.slot.Slot.{Slot}
 use Rattle.fsd_log.specs.Scan.{Head, Placed, Walked, next, scan, start, room_at, window}
 use Rattle.log_thirds.specs.Reading.{Stepped, stepped_of}
 use Rattle.log_thirds.specs.declared.firsts.Firsts.{Firsts}
 use Rattle.log_thirds.specs.Firsts.{firsts_of, firsts_with, AreFirsts}
 use Rattle.log_thirds.proofs.FirstsLaws.{firsts_more}
-use Rattle.log_thirds.specs.Slots.{slots_with, AreLastSlots}
+use Rattle.fsd_log.specs.Slots.{slots_with, AreLastSlots}
 use Rattle.fsd_log.proofs.HereLaws.{here_some}
 use Rattle.fsd_log.proofs.WalkLaws.{IsFound, next_found, Goes, goes_more, walk_of_goes}
 use Rattle.log_thirds.specs.Copies.{Copies, AreCopiesOf, AreLastCopies}
-use Rattle.log_thirds.proofs.SlotLaws.{slots_more, no_records}
+use Rattle.fsd_log.proofs.SlotLaws.{slots_more, no_records}
 use Rattle.log_thirds.proofs.CopyLaws.{last_more}
 
 -- some records lead from the start to a head, and the table has their slots

@@ -18,7 +18,7 @@ use Rattle.fsd_log.specs.Borne.{Foreign}
 use Rattle.fsd_log.proofs.AppendLaws.{none_foreign}
 use Rattle.fsd_log.proofs.WalkLaws.{stamp_of, goes_keeps}
 use Rattle.log_thirds.specs.declared.firsts.Firsts.{Firsts}
-use Rattle.log_thirds.specs.declared.slots.Slot.{Slot}
+use Rattle.fsd_log.specs.declared.slot.Slot.{Slot}
 use Rattle.log_thirds.specs.Copies.{Copies}
 use Rattle.log_thirds.proofs.ScanLaws.{Reaches}
 use Rattle.log_record.specs.Found.{read_of}

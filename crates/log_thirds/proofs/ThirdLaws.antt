@@ -3,9 +3,9 @@ use Rattle.std.proofs.Common.{◌≡◌, ℕ, ◌<◌, List, length, Option, Som
 use Rattle.std.specs.Prelude.{IsTrue, IfSome, IfNone}
 use Rattle.volume_layout.specs.Layout.{third_start}
 use Rattle.fsd_log.specs.Scan.{Placed}
-use Rattle.log_thirds.specs.declared.slots.Slot.{Slot}
+use Rattle.fsd_log.specs.declared.slot.Slot.{Slot}
 use Rattle.log_thirds.specs.LogValue.{LogValue}
-use Rattle.log_thirds.specs.Slots.{lies_in, IsLeastIn, NoneLiesIn}
+use Rattle.fsd_log.specs.Slots.{lies_in, IsLeastIn, NoneLiesIn}
 use Rattle.log_thirds.specs.Append.{IsIndexed, IsLeastOfThird, NoneOfThird}
 
 module _ (log : LogValue) (records : List Placed) (t first : ℕ) (long : length log.slots ≡ log.layout.pages) (are : IsIndexed log records) where

@@ -10,7 +10,7 @@ use Rattle.log_thirds.specs.Disk.{reads}
 use Rattle.log_thirds.specs.LogValue.{LogValue}
 use Rattle.log_thirds.specs.Copies.{AreLastCopies}
 use Rattle.log_thirds.specs.Firsts.{firsts_with, AreFirsts}
-use Rattle.log_thirds.specs.Slots.{slots_with, AreLastSlots, last_slot, lies_in}
+use Rattle.fsd_log.specs.Slots.{slots_with, AreLastSlots, last_slot, lies_in}
 use Rattle.volume_layout.specs.declared.kind.Kind.{Kind}
 use Rattle.volume_layout.specs.Layout.{third_start, with_kind}
 use Rattle.volume_layout.specs.Kinds.{gap_of}

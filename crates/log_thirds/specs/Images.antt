@@ -1,7 +1,6 @@
 -- What a page's slot gives of its last image.
 use Rattle.std.specs.Prelude.{◌≡◌, ◌<◌, ◌⊎◌, ⊤, ℕ, Bool, List, Option, Some, None, IfSome, slice_index_or}
 use Rattle.std.specs.Option.{option_or}
-use Rattle.volume_layout.specs.Shape.{Shape}
 use Rattle.sector_disk.specs.declared.sector.Sector.{Sector}
 use Rattle.sector_disk.specs.declared.sector.Sector.TheVariants.{Whole}
 use Rattle.sector_disk.specs.Image.{sector_at}
@@ -13,12 +12,11 @@ use Rattle.fsd_log.specs.Judged.{Reader}
 use Rattle.fsd_log.specs.Plain.{either_copy}
 use Rattle.fsd_log.specs.Images.{last_image}
 use Rattle.fsd_log.specs.Scan.{Placed}
-use Rattle.fsd_log.specs.Places.{LieInRecord}
 use Rattle.log_thirds.specs.Disk.{reads}
 use Rattle.log_thirds.specs.Reading.{ReadWorn}
 use Rattle.log_thirds.specs.LogValue.{LogValue}
-use Rattle.log_thirds.specs.Slots.{last_slot}
-use Rattle.log_thirds.specs.declared.slots.Slot.{Slot}
+use Rattle.fsd_log.specs.Slots.{AreOfSlot, LiesAt, last_slot}
+use Rattle.fsd_log.specs.declared.slot.Slot.{Slot}
 
 -- The page, or else its copy, bears the record's stamp, and is the image that is meant.
 pub record GivesSlot (page epoch : ℕ) (disk : Reader) (slot : Slot) (o : Option (List ℕ)) : Type 0 where
@@ -42,20 +40,10 @@ pub record SeesSlot (old : Moment) (slot : Slot) (page epoch : ℕ) (image : Opt
   pub read_copy : ReadWorn old slot.copy copy
   pub serves : image ≡ best_copy (bears page (record { epoch = epoch; number = slot.number })) first copy
 
--- the two sectors of a page's slot: the page's own and its copy, in the record that the slot is of
-pub record LiesAt (slot : Option Slot) (a b : ℕ) : Type 0 where
-  pub number : ℕ
-  pub is : slot ≡ Some (record { place = a; copy = b; number = number })
-
 -- a lost image's two sectors are those of its slot
 abbrev pub NamesSlot : Option Slot → LoadFault → Type 0
 NamesSlot slot (Device place) = ⊤
 NamesSlot slot (Lost a b) = LiesAt slot a b
-
--- The sectors are those of a slot, and a page's own and its copy in a record that lies in the log.
-pub record AreOfSlot (l : Shape) (slot : Option Slot) (a b : ℕ) : Type 0 where
-  pub lies : LiesAt slot a b
-  pub in_record : LieInRecord l a b
 
 -- those of the page's slot, in the record that the log names as the page's last
 abbrev pub AreLogged : LogValue → (page a b : ℕ) → Type 0

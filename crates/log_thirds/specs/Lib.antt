@@ -6,9 +6,6 @@ pub mod Firsts
 pub mod Giving
 pub mod Images
 pub mod LogValue
-pub mod Moves
 pub mod Moving
 pub mod Reading
-pub mod Slots
 pub mod Seen
-pub mod Logged

@@ -3,10 +3,10 @@ use Rattle.std.specs.Prelude.{◌≡◌, ◌<◌, ◌≤◌, ◌+◌, ◌*◌, �
 use Rattle.fsd_formats.specs.declared.anchor.Anchor.{Anchor}
 use Rattle.volume_layout.specs.Shape.{Shape}
 use Rattle.fsd_log.specs.Scan.{Head, IsIn}
-use Rattle.log_thirds.specs.declared.slots.Slot.{Slot}
+use Rattle.fsd_log.specs.declared.slot.Slot.{Slot}
 use Rattle.log_thirds.specs.declared.firsts.Firsts.{Firsts}
 use Rattle.log_thirds.specs.Firsts.{AreNumbers}
-use Rattle.log_thirds.specs.Slots.{LieInRecords, SlotsInside}
+use Rattle.fsd_log.specs.Slots.{LieInRecords, SlotsInside}
 use Rattle.log_thirds.specs.Copies.{Copies, FitsDisk, copies_count}
 
 pub record LogValue : Type 0 where

@@ -1,29 +1,19 @@
 -- A log whose anchor moves on by a third.
-use Rattle.std.specs.Prelude.{◌≡◌, ℕ, ◌+◌, ◌*◌, ◌<◌, List, map, filter, nat_le, nat_lt, Option, None, if◌then◌else◌}
-use Rattle.volume_layout.specs.Shape.{Shape}
+use Rattle.std.specs.Prelude.{◌≡◌, ◌*◌, ◌<◌, List, map}
 use Rattle.volume_layout.specs.Layout.{third_start}
 use Rattle.sector_disk.specs.declared.machine.Machine.{Ghosts}
 use Rattle.sector_disk.specs.Machine.{Holds, LeavesOnly, Moment, wrote}
 use Rattle.fsd_formats.specs.declared.anchor.Anchor.{Anchor}
 use Rattle.fsd_log.specs.Scan.{Placed}
-use Rattle.log_thirds.specs.declared.slots.Slot.{Slot}
-use Rattle.log_thirds.specs.Slots.{lies_in}
 use Rattle.log_thirds.specs.Anchoring.{AnchorsIn, with_anchors}
 use Rattle.log_thirds.specs.Append.{IsIndexed, IsLogWorn}
-use Rattle.log_thirds.specs.Moves.{moved_back, head_back}
+use Rattle.fsd_log.specs.Moves.{head_back, next_third, records_moved}
+use Rattle.fsd_log.specs.Slots.{slot_outside}
 use Rattle.log_thirds.specs.LogValue.{LogValue}
-
--- the third of the disk that follows, round
-abbrev pub next_third : ℕ → ℕ
-next_third third = if nat_lt third 2 then third + 1 else 0
 
 -- the anchor that names the following third and its first record
 abbrev pub moved_anchor : LogValue → Anchor
 moved_anchor log = record { epoch = log.anchor.epoch; third = next_third log.anchor.third; first = log.firsts.second }
-
--- the slot, unless its image lies in so many sectors from a start on
-abbrev pub slot_outside : (start count : ℕ) → Option Slot → Option Slot
-slot_outside start count slot = if lies_in start count slot then None else slot
 
 -- the log without what lies in its first third
 abbrev pub moved : LogValue → LogValue
@@ -35,14 +25,6 @@ moved log = record {
   slots = map (slot_outside (third_start log.layout log.anchor.third) log.layout.third) log.slots;
   copies = log.copies;
 }
-
--- the records behind the first third
-abbrev pub later : Shape → List Placed → List Placed
-later l records = filter (λ r. nat_le l.third r.at) records
-
--- the same on the tape that begins with the following third
-abbrev pub records_moved : Shape → List Placed → List Placed
-records_moved l records = map (moved_back l.third) (later l records)
 
 -- the last record lies in the last third of the tape, the one before the first third
 abbrev pub EndsInLastThird : LogValue → Type 0

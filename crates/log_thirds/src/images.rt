@@ -4,10 +4,11 @@ ghost use Rattle.sector_disk.specs.Calls.{OnlyReads, device_in, failed_at};
 ghost use Rattle.sector_disk.specs.Damage.{AreLost};
 ghost use Rattle.fsd_formats.specs.Record.{bears};
 ghost use Rattle.fsd_log.specs.Plain.{served};
-ghost use Rattle.log_thirds.specs.Images.{best_copy, LiesAt, SeesSlot};
+ghost use Rattle.log_thirds.specs.Images.{best_copy, SeesSlot};
+ghost use Rattle.fsd_log.specs.Slots.{LiesAt};
 
-use crate::slots::Slot;
 use fsd_bytes::u32_at;
+use fsd_log::Slot;
 use sector_disk::{Failed, Machine, read_sector};
 
 // Whether a sector is the page's image in a record.

@@ -4,7 +4,7 @@ ghost use Rattle.sector_disk.specs.Machine.{Moment};
 ghost use Rattle.log_thirds.specs.Append.{IsCalmNow, IsApartNow, IsIndexed, IsLogIn};
 ghost use Rattle.log_thirds.specs.Disk.{reads};
 ghost use Rattle.log_thirds.specs.Images.{GivesSlot};
-ghost use Rattle.log_thirds.specs.declared.slots.Slot.{Slot};
+ghost use Rattle.fsd_log.specs.declared.slot.Slot.{Slot};
 ghost use Rattle.fsd_log.specs.Images.{last_image};
 ghost use Rattle.log_thirds.specs.LogValue.{LogValue};
 ghost use Rattle.volume_layout.specs.Shape.{Shape};
@@ -13,7 +13,7 @@ ghost use Rattle.volume_layout.specs.declared.kind.Kind.{Kind};
 ghost use Rattle.fsd_log.specs.Judged.{Reader};
 ghost use Rattle.fsd_log.specs.Borne.{Foreign};
 ghost use Rattle.fsd_log.specs.Scan.{Head, Placed, IsLog, start, tape};
-ghost use Rattle.log_thirds.specs.Moves.{IsNextThird, MovesOn};
+ghost use Rattle.fsd_log.specs.Moves.{IsNextThird, MovesOn};
 
 /// By an anchor that names the third behind the first one, the log is what lay behind the first third,
 /// and goes on where it did.

@@ -1,6 +1,6 @@
 //! The thirds of the disk, round.
 ghost use Rattle.std.specs.Prelude.{◌≡◌, ◌≤◌};
-ghost use Rattle.log_thirds.specs.Moving.{next_third};
+ghost use Rattle.fsd_log.specs.Moves.{next_third};
 
 /// The third that follows.
 pub(crate) fn next_third(third: u32) -> u32

@@ -2,19 +2,11 @@
 ghost use Rattle.std.specs.Prelude.{◌≡◌, ◌<◌, ◌+◌, ◌*◌, ◌^◌, Some, None, IfOk, IfSome, IfNone, is_some, length, map, slice_set, replicate};
 ghost use Rattle.std.specs.List.{list_any};
 ghost use Rattle.volume_layout.specs.Kinds.{gap_of};
-ghost use Rattle.log_thirds.specs.Moving.{slot_outside};
-ghost use Rattle.log_thirds.specs.Slots.{noted_slots, lies_in, IsLeastIn, NoneLiesIn};
+ghost use Rattle.fsd_log.specs.Slots.{slot_outside, noted_slots, lies_in, IsLeastIn, NoneLiesIn};
 
+use fsd_log::Slot;
 use std::alloc::{AllocError, Global};
 use volume_layout::Layout;
-
-/// The sectors of a page's image in a record and of its copy there, and the record's number.
-#[derive(Clone, Copy)]
-pub(crate) struct Slot {
-    pub place: u32,
-    pub copy: u32,
-    pub number: u32,
-}
 
 /// A table with no slot.
 pub(crate) fn no_slots(alloc: Global, pages: u32) -> Result<Vec<Option<Slot>>, AllocError>

@@ -27,12 +27,12 @@ use Rattle.fsd_sound.specs.Roots.{counted_root, root_of}
 use Rattle.fsd_sound.specs.Shown.{records_by, newest}
 use Rattle.fsd_sound.proofs.LogPlaces.{scan_records}
 use Rattle.log_thirds.specs.Append.{IsCalmNow, IsIndexed}
-use Rattle.log_thirds.specs.declared.slots.Slot.{Slot}
+use Rattle.fsd_log.specs.declared.slot.Slot.{Slot}
 use Rattle.log_thirds.specs.Disk.{reads}
 use Rattle.log_thirds.specs.Images.{GivesSlot, GivesLast}
 use Rattle.log_thirds.specs.LogValue.{LogValue}
 use Rattle.log_thirds.specs.Copies.{copies_count}
-use Rattle.log_thirds.specs.Slots.{last_slot}
+use Rattle.fsd_log.specs.Slots.{last_slot}
 use Rattle.log_thirds.proofs.RunLaws.{calm_runs}
 use Rattle.fsd_files.specs.Scrub.{ReadsDamaged}
 use Rattle.twin_home.specs.Heal.{Mends, Heals, Healed, HealsRoots}

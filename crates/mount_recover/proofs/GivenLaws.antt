@@ -15,9 +15,9 @@ use Rattle.fsd_log.proofs.PlaceLaws.{place_inside}
 use Rattle.fsd_files.specs.Disk.{Image, bytes_at}
 use Rattle.fsd_sound.specs.Shown.{scan_by, records_by}
 use Rattle.fsd_sound.proofs.LogPlaces.{IsRecord, start_in, scan_goes}
-use Rattle.log_thirds.specs.declared.slots.Slot.{Slot}
+use Rattle.fsd_log.specs.declared.slot.Slot.{Slot}
 use Rattle.log_thirds.specs.Images.{GivesSlot}
-use Rattle.log_thirds.specs.Slots.{slot_in, slot_in_record, last_slot}
+use Rattle.fsd_log.specs.Slots.{slot_in, slot_in_record, last_slot}
 use Rattle.log_thirds.proofs.ImageLaws.{no_last_image, last_image_read}
 
 -- ---- one slot

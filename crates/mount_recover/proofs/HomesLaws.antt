@@ -14,7 +14,7 @@ use Rattle.fsd_sound.proofs.CommuteLaws.{with_same, with_other}
 use Rattle.fsd_sound.specs.Homes.{HasBothHomes, HasSome}
 use Rattle.twin_home.specs.Heal.{Healed}
 use Rattle.log_thirds.specs.LogValue.{LogValue}
-use Rattle.log_thirds.specs.declared.slots.Slot.{Slot}
+use Rattle.fsd_log.specs.declared.slot.Slot.{Slot}
 use Rattle.mount_recover.specs.Mending.{AreHomed, IsHomeOf, KeepsBut, LacksPage, StaysBut, logged_count, one_if_some}
 use Rattle.mount_recover.proofs.MendingLaws.{here_or, home_from, home_other, home_same_page}
 use Rattle.mount_recover.proofs.MountLaws.{open_settled}

@@ -47,7 +47,7 @@ use Rattle.fsd_sound.specs.Lost.{AreHomes, AreLoggedOn, AreHomesOn, AreCopiesOn,
 use Rattle.fsd_sound.specs.Mounting.{HasRoot, last_epoch}
 use Rattle.mount_recover.specs.Mending.{IsLoadFault, AreOfAll, StaysElsewhere, KeepsUnwritten, IsSeen, Completed, StaysShown, HasSettled, StaysOrSettles}
 use Rattle.log_thirds.specs.Anchoring.{in_next_epoch}
-use Rattle.log_thirds.proofs.SlotLaws.{no_records}
+use Rattle.fsd_log.proofs.SlotLaws.{no_records}
 use Rattle.mount_recover.specs.Recover.{IsFreshLog, IsRefusedFor, ShowsVolume}
 use Rattle.mount_recover.specs.Replay.{HasLastCopies, IsCompletedFrom, Replays}
 use Rattle.fsd_sound.proofs.CompleteLaws.{all_last}

@@ -6,9 +6,8 @@ use Rattle.volume_layout.specs.Shape.{Shape}
 use Rattle.volume_layout.specs.Kinds.{gap_of}
 use Rattle.fsd_log.specs.Places.{last_places, places_in}
 use Rattle.fsd_log.specs.Scan.{Placed, place_of}
-use Rattle.log_thirds.specs.declared.slots.Slot.{Slot}
-use Rattle.log_thirds.specs.Images.{LiesAt}
-use Rattle.log_thirds.specs.Slots.{slot_in_record, slot_in, last_slot}
+use Rattle.fsd_log.specs.declared.slot.Slot.{Slot}
+use Rattle.fsd_log.specs.Slots.{LiesAt, slot_in_record, slot_in, last_slot}
 
 abbrev places_of : Slot → ℕ × ℕ
 places_of s = (s.place, s.copy)

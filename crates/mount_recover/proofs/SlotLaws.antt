@@ -2,7 +2,7 @@
 use Rattle.std.proofs.Common.{◌≡◌, ◌⊎◌, inl, inr, ℕ, ◌+◌, ◌*◌, ◌<◌, List, [], ◌∷◌, Option, Some, None, refl, sym, ap, subst, ◌∙◌}
 use Rattle.std.specs.List.{AllByRecursion}
 use Rattle.std.specs.Prelude.{slice_index_or}
-use Rattle.log_thirds.specs.declared.slots.Slot.{Slot}
+use Rattle.fsd_log.specs.declared.slot.Slot.{Slot}
 use Rattle.volume_layout.specs.declared.layout.Layout.{Layout}
 use Rattle.volume_layout.specs.Kinds.{gap_of}
 use Rattle.sector_disk.specs.declared.machine.LoadFault.{LoadFault}
@@ -27,9 +27,9 @@ use Rattle.fsd_sound.proofs.SectorFacts.{has_bytes, has_weak}
 use Rattle.fsd_sound.proofs.TwiceLaws.{image_stands}
 use Rattle.fsd_files.proofs.KeptLaws.{has_on}
 use Rattle.log_thirds.specs.Append.{IsIndexed}
-use Rattle.log_thirds.specs.Images.{AreLogged, LiesAt, StandsInSlot}
+use Rattle.log_thirds.specs.Images.{AreLogged, StandsInSlot}
+use Rattle.fsd_log.specs.Slots.{LiesAt, last_slot}
 use Rattle.log_thirds.specs.LogValue.{LogValue}
-use Rattle.log_thirds.specs.Slots.{last_slot}
 use Rattle.log_thirds.proofs.ImageLaws.{logged_by}
 use Rattle.log_thirds.proofs.GivesLaws.{EachImage, Gives, slot_gives as slot_gives_at}
 use Rattle.mount_recover.specs.Mending.{IsCompleted, IsMending}

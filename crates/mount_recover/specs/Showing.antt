@@ -13,7 +13,7 @@ use Rattle.fsd_sound.specs.Shown.{records_by}
 use Rattle.log_thirds.specs.Append.{IsIndexed}
 use Rattle.log_thirds.specs.Images.{GivesLast}
 use Rattle.log_thirds.specs.LogValue.{LogValue}
-use Rattle.log_thirds.specs.Slots.{last_slot}
+use Rattle.fsd_log.specs.Slots.{last_slot}
 use Rattle.fsd_sound.specs.declared.fault.MountFault.{MountFault}
 use Rattle.fsd_sound.specs.declared.fault.MountFault.TheVariants.{Lost}
 

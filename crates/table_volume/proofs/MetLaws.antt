@@ -14,7 +14,8 @@ use Rattle.fsd_bytes.specs.declared.refusal.Refusal.TheVariants as Why
 use Rattle.fsd_formats.specs.declared.entry.Entry.{Entry}
 use Rattle.fsd_formats.specs.NamePage.{is_entry}
 use Rattle.name_btree.specs.declared.lookup.FoundEntry.{FoundEntry}
-use Rattle.volume_contract.specs.Absent.{LacksKey, ShowsReached}
+use Rattle.fsd_sound.specs.Lookups.{LacksKey}
+use Rattle.volume_contract.specs.Found.{ShowsReached}
 use Rattle.volume_contract.specs.Causes.{Causes, IsTaken, meets_held}
 use Rattle.volume_contract.specs.Ends.{device_of, found_one}
 use Rattle.volume_contract.specs.Healing.{IsMet}

@@ -42,7 +42,8 @@ use Rattle.log_thirds.specs.LogValue.{LogValue}
 use Rattle.mount_recover.specs.Recover.{IsFreshLog, IsSettledIn}
 use Rattle.mount_recover.specs.Replay.{IsReplayed}
 use Rattle.table_pages.specs.ImageLaws.{image_at as page_at, image_count}
-use Rattle.volume_contract.specs.Mount.{BreaksAt, Excuses, IsSoundAt, Mounts, SettledDisk, SoundSince}
+use Rattle.fsd_table.specs.Breaks.{BreaksAt}
+use Rattle.volume_contract.specs.Mount.{Excuses, IsSoundAt, Mounts, SettledDisk, SoundSince}
 use Rattle.volume_contract.specs.State.{Fits, Known, Stands, none_open}
 use Rattle.cached_table.specs.HomeLaws.{in_homes}
 use Rattle.cached_table.specs.Homes.{KnowsHomes, home_by}

@@ -15,7 +15,8 @@ use Rattle.fsd_sound.specs.declared.fault.MountFault.TheVariants.{Unsound}
 use Rattle.fsd_sound.proofs.EachLaws.{all_in_range, each_at, each_of_all}
 use Rattle.mount_recover.specs.Recover.{IsNotUnsound}
 use Rattle.table_pages.specs.Kept.{images_given}
-use Rattle.volume_contract.specs.Mount.{BreaksAt, ReadAlike, UnsoundFor}
+use Rattle.fsd_table.specs.Breaks.{BreaksAt}
+use Rattle.volume_contract.specs.Mount.{ReadAlike, UnsoundFor}
 use Rattle.cached_table.specs.HomeLaws.{in_homes}
 use Rattle.cached_table.specs.Homes.{KnowsHomes, home_by}
 use Rattle.table_volume.specs.Mounting.{OpensKnown}

@@ -33,7 +33,7 @@ use Rattle.fsd_sound.proofs.OpenLaws.{drafts_worn}
 use Rattle.fsd_sound.proofs.TurningLaws.{own_turned, turned_mounted, turning_sound}
 use Rattle.fsd_sound.proofs.WindowLaws.{open_is_weak}
 use Rattle.fsd_sound.proofs.WritesLaws.{beside}
-use Rattle.log_thirds.specs.declared.slots.Slot.{Slot}
+use Rattle.fsd_log.specs.declared.slot.Slot.{Slot}
 use Rattle.log_thirds.specs.Append.{of_kind}
 use Rattle.log_thirds.specs.Firsts.{AreFirsts}
 use Rattle.twin_home.specs.Heal.{RootsIn}

@@ -1,8 +1,9 @@
 //! Entries that are found in the table.
 ghost use Rattle.std.specs.Prelude.{◌≡◌, ◌≤◌, IfOk, IfNone, IfSome};
 ghost use Rattle.fsd_files.specs.Answers.{entry_of};
-ghost use Rattle.volume_contract.specs.Absent.{LacksKey, ShowsReached};
-ghost use Rattle.volume_contract.specs.Found.{HasEntry};
+ghost use Rattle.fsd_sound.specs.Lookups.{LacksKey};
+ghost use Rattle.volume_contract.specs.Found.{ShowsReached};
+ghost use Rattle.fsd_table.specs.Reached.{HasEntry};
 ghost use Rattle.volume_contract.specs.State.{Known, Stands, volume_of};
 ghost use Rattle.cached_table.specs.Looking.{FindsEntry};
 ghost use Rattle.volume_laws.specs.State.{IsMemoryOf, resident, state};

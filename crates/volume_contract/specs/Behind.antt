@@ -2,21 +2,13 @@
 use Rattle.std.specs.Prelude.{◌≡◌, ◌⊎◌, ℕ, List, Option, Some}
 use Rattle.fsd_formats.specs.declared.entry.Entry.{Entry}
 use Rattle.sector_disk.specs.Machine.{Moment}
-use Rattle.log_thirds.specs.LogValue.{LogValue}
-use Rattle.log_thirds.specs.Logged.{StandsLogged}
+use Rattle.fsd_sound.specs.Logged.{StandsLogged}
 use Rattle.volume_contract.specs.Causes.{HasUntaken}
 use Rattle.volume_contract.specs.State.{State}
-
--- These bytes of the page stand in the log of which the volume tells.
-pub record StandsInLog (t : State) (now : Moment) (page : ℕ) (bytes : List ℕ) : Type 0 where
-  pub log : LogValue
-  pub layout : log.layout ≡ t.layout
-  pub slots : log.slots ≡ t.slots
-  pub stands : StandsLogged log now page bytes
 
 -- Of what the volume has in memory and tells now, all was so before, or stands in the log.
 pub record IsBehindForce (s t : State) (before after : ℕ → Option (List ℕ)) (now : Moment) : Type 0 where
   pub layout : t.layout ≡ s.layout
   pub free_pages : t.free_pages ≡ s.free_pages
-  pub pages : (page : ℕ) (bytes : List ℕ) → after page ≡ Some bytes → (before page ≡ Some bytes) ⊎ StandsInLog t now page bytes
+  pub pages : (page : ℕ) (bytes : List ℕ) → after page ≡ Some bytes → (before page ≡ Some bytes) ⊎ StandsLogged t.layout t.slots now page bytes
   pub untaken : (e : Entry) → HasUntaken t e → HasUntaken s e

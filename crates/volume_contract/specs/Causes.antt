@@ -20,7 +20,7 @@ use Rattle.fsd_files.specs.Disk.{Image}
 use Rattle.fsd_files.specs.Volume.{is_in}
 use Rattle.fsd_sound.specs.Homes.{AreHomesOf}
 use Rattle.fsd_sound.specs.Mounted.{image_at}
-use Rattle.log_thirds.specs.Images.{AreOfSlot, LiesAt}
+use Rattle.fsd_log.specs.Slots.{AreOfSlot, LiesAt}
 use Rattle.volume_contract.specs.State.{State, held_of}
 
 -- ---- what is lost

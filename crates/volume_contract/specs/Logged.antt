@@ -6,7 +6,7 @@ use Rattle.sector_disk.specs.Image.{open_damage}
 use Rattle.sector_disk.specs.Machine.{Moment}
 use Rattle.fsd_formats.specs.NamePage.{Content}
 use Rattle.fsd_sound.specs.Laid.{StandsTwice}
-use Rattle.log_thirds.specs.Images.{AreOfSlot}
+use Rattle.fsd_log.specs.Slots.{AreOfSlot}
 use Rattle.volume_contract.specs.State.{State, resident_content}
 
 -- The page is in memory, and its bytes stand in both of its copies in the last record that has it,

@@ -1,7 +1,7 @@
 -- What a mount finds, why it is refused, and what it leaves.
 use Rattle.std.specs.Prelude.{◌≡◌, ◌⊎◌, ⊤, ℕ, ◌+◌, ◌*◌, ◌<◌, ◌≤◌, Bool, ◌||◌, List, [], ◌∷◌, ◌++◌, take, Some, None, IfSome, IfOk, IfErr, Result, Ok, Err}
 use Rattle.volume_layout.specs.declared.layout.Layout.{Layout}
-use Rattle.volume_layout.specs.Layout.{home_a, plan}
+use Rattle.volume_layout.specs.Layout.{plan}
 use Rattle.fsd_formats.specs.declared.anchor.Anchor.{Anchor}
 use Rattle.fsd_formats.specs.Anchors.{anchor_bytes}
 use Rattle.sector_disk.specs.declared.machine.Machine.{Ghosts}
@@ -9,7 +9,7 @@ use Rattle.sector_disk.specs.declared.sector.WeakRun.{WeakRun}
 use Rattle.sector_disk.specs.Image.{IsWorn, in_weak_run, open_damage}
 use Rattle.sector_disk.specs.Machine.{Ledger, Moment, Wears}
 use Rattle.fsd_log.specs.Scan.{Placed}
-use Rattle.fsd_table.specs.Breaks.{Breaks}
+use Rattle.fsd_table.specs.Breaks.{Breaks, BreaksAt}
 use Rattle.fsd_table.specs.Table.{told_in}
 use Rattle.fsd_files.specs.Disk.{Image}
 use Rattle.fsd_files.specs.Files.{Change}
@@ -82,10 +82,6 @@ abbrev pub HealsHomes : State → Moment → Type 0
 HealsHomes s now = (page : ℕ) → page < s.layout.pages → HasBothHomes s.layout now page
 
 -- ---- unsound tables
-
--- a page of these at this home breaks the table
-abbrev pub BreaksAt : Layout → List (List ℕ) → ℕ → Type 0
-BreaksAt l pages s = (page : ℕ) × (s ≡ home_a l page) × Breaks l pages page
 
 -- these are the pages at home, however these sectors of the image wear
 abbrev pub ReadAlike : Layout → (weak : ℕ → Bool) → Image → List (List ℕ) → Type 0

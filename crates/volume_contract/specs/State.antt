@@ -29,10 +29,9 @@ use Rattle.fsd_sound.specs.Mounted.{Mounted, IsMounted, Wrote, most_waiting}
 use Rattle.fsd_sound.specs.Shown.{records_by}
 use Rattle.fsd_sound.specs.Sound.{EndIn, IsSound}
 use Rattle.fsd_sound.specs.Writes.{force_writes}
-use Rattle.log_thirds.specs.declared.slots.Slot.{Slot}
-use Rattle.log_thirds.specs.Moves.{head_back}
-use Rattle.log_thirds.specs.Moving.{next_third, slot_outside}
-use Rattle.log_thirds.specs.Slots.{AreLastSlots, lies_in}
+use Rattle.fsd_log.specs.declared.slot.Slot.{Slot}
+use Rattle.fsd_log.specs.Moves.{head_back, next_third}
+use Rattle.fsd_log.specs.Slots.{slot_outside, AreLastSlots, lies_in}
 use Rattle.fsd_runs.specs.Runs.{last_count}
 use Rattle.volume_layout.specs.Kinds.{gap_of}
 

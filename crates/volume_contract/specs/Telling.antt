@@ -14,11 +14,12 @@ use Rattle.fsd_files.specs.Answers.{HasLeader}
 use Rattle.fsd_files.specs.Disk.{Image}
 use Rattle.fsd_files.specs.Scrub.{CountsTwins, FindsLeader}
 use Rattle.volume_contract.specs.declared.files.Forced.{Forced}
-use Rattle.volume_contract.specs.Absent.{LacksKey, LacksLater, ShowsReached}
+use Rattle.fsd_sound.specs.Lookups.{LacksKey, LacksLater}
+use Rattle.volume_contract.specs.Found.{ShowsReached, HasRange, ShowsReachedNext}
 use Rattle.volume_contract.specs.Behind.{IsBehindForce}
 use Rattle.volume_contract.specs.Causes.{Causes, IsTaken}
 use Rattle.volume_contract.specs.Ends.{IsLater, count_in}
-use Rattle.volume_contract.specs.Found.{HasEntry, HasRange, ShowsReachedNext}
+use Rattle.fsd_table.specs.Reached.{HasEntry}
 use Rattle.volume_contract.specs.Healing.{IsMet, LosesTwins, TwinsStand}
 use Rattle.volume_contract.specs.Logged.{AllLogged, KeepsPages}
 use Rattle.volume_contract.specs.State.{HasEnough, State, enters_again}

@@ -1,6 +1,6 @@
 -- What is known behind a force, and why a look-up there tells something as lost or as unsound, said of the volume before the force.
 use Rattle.std.proofs.Common.{◌≡◌, ◌⊎◌, inl, inr, ℕ, ◌<◌, Bool, true, false, cond, nat_le, nat_lt, List, length, Option, Some, None, Result, Ok, Err, refl, sym, ap, subst, ◌∙◌, arith}
-use Rattle.std.specs.Prelude.{IfSome, IsErrAnd, IsFalse, IsTrue, slice_index_or}
+use Rattle.std.specs.Prelude.{IfSome, IsErrAnd, IsFalse, IsTrue}
 use Rattle.volume_layout.specs.declared.layout.Layout.{Layout}
 use Rattle.std.proofs.lemmas.Bool.{and_parts, leb-true}
 use Rattle.volume_layout.specs.Layout.{data_start, home_a, is_data}
@@ -19,15 +19,13 @@ use Rattle.fsd_formats.specs.declared.entry.Entry.{Entry}
 use Rattle.fsd_table.specs.Breaks.{Breaks}
 use Rattle.fsd_files.specs.Disk.{Image, SectorWorn}
 use Rattle.fsd_log.specs.Places.{LieInRecord}
-use Rattle.log_thirds.specs.Images.{LiesAt}
-use Rattle.log_thirds.specs.LogValue.{LogValue}
-use Rattle.log_thirds.specs.declared.slots.Slot.{Slot}
-use Rattle.log_thirds.specs.Logged.{StandsLogged}
+use Rattle.fsd_log.specs.declared.slot.Slot.{Slot}
+use Rattle.fsd_sound.specs.Logged.{StandsLogged}
 use Rattle.version_data.specs.Writing.{WritesIn}
 use Rattle.volume_contract.specs.Causes.{AreSomeCopies, AreCopiesOfPage, BreaksMounted, Causes, HasCallCause, IsRead, ShowsOfPages, StandsInCopy, StoodInCopy}
 use Rattle.volume_contract.specs.Order.{Comes, with_drawn}
 use Rattle.volume_contract.specs.State.{State, forces_first, forces_for_place}
-use Rattle.volume_contract.specs.Behind.{IsBehindForce, StandsInLog}
+use Rattle.volume_contract.specs.Behind.{IsBehindForce}
 use Rattle.volume_laws.specs.Ending.{Edits, delete_tests, keep_tests}
 use Rattle.volume_laws.specs.Placing.{HasStored}
 use Rattle.volume_laws.specs.State.{resident, state}
@@ -70,16 +68,11 @@ module _ (s t u : State) (before after : ℕ → Option (List ℕ)) (old mid now
   worn_now i worn = subst (λ (w : Windows). IsWorn (open_damage w) i now.image) (sym wears.windows) (worn_trans (open_damage mid.windows) i mid.image now.image worn wears.image)
 
   -- what stands in the log stands in a copy
-  in_copy : (page : ℕ) (bytes : List ℕ) → (logged : StandsInLog t mid page bytes) → StandsInCopy t logged.stands.seen page bytes
-  in_copy page bytes logged = record {
-    a = logged.stands.a;
-    b = logged.stands.b;
-    copies = inl (subst (λ (slots : List (Option Slot)). LiesAt (slice_index_or slots page None) logged.stands.a logged.stands.b) logged.slots logged.stands.logged.lies);
-    whole = inl logged.stands.first;
-  }
+  in_copy : (page : ℕ) (bytes : List ℕ) → (stands : StandsLogged t.layout t.slots mid page bytes) → StandsInCopy t stands.seen page bytes
+  in_copy page bytes stands = record { a = stands.a; b = stands.b; copies = inl stands.logged.lies; whole = inl stands.first }
 
-  stood_behind : (page : ℕ) (bytes : List ℕ) → StandsInLog t mid page bytes → StoodInCopy s u old now page bytes
-  stood_behind page bytes logged = (logged.stands.seen, inr (worn_now logged.stands.seen logged.stands.worn, stands_now logged.stands.seen page bytes (in_copy page bytes logged)))
+  stood_behind : (page : ℕ) (bytes : List ℕ) → StandsLogged t.layout t.slots mid page bytes → StoodInCopy s u old now page bytes
+  stood_behind page bytes stands = (stands.seen, inr (worn_now stands.seen stands.worn, stands_now stands.seen page bytes (in_copy page bytes stands)))
 
   stood_then : (page : ℕ) (bytes : List ℕ) → StoodInCopy t u mid now page bytes → StoodInCopy s u old now page bytes
   stood_then page bytes (seen, inl (worn, stands)) = (mid.image, inr (worn_now mid.image (worn_refl (open_damage mid.windows) mid.image), stands_now mid.image page bytes (whole_before mid.image seen page bytes worn stands)))
@@ -187,9 +180,9 @@ module _ (l : Layout) (mid now : Moment) (writes : WritesIn (is_data l) mid now)
     kept_at a lt = at_then a ∙ ap (λ (b : Bool). cond b (sector_at now.image a) (sector_at seen a)) (out a lt)
 
   -- what stands in the log lies before the data area
-  logged_still : (log : LogValue) → log.layout ≡ l → (page : ℕ) (bytes : List ℕ) → StandsLogged log mid page bytes → StandsLogged log now page bytes
-  logged_still log same page bytes g =
-      let below : (g.a < home_a l 0) × (g.b < home_a l 0) = subst (λ (x : Layout). (g.a < home_a x 0) × (g.b < home_a x 0)) same (record_below log.layout g.a g.b g.logged.in_record) in
+  logged_still : (k : Layout) → k ≡ l → (slots : List (Option Slot)) (page : ℕ) (bytes : List ℕ) → StandsLogged k slots mid page bytes → StandsLogged k slots now page bytes
+  logged_still k same slots page bytes g =
+      let below : (g.a < home_a l 0) × (g.b < home_a l 0) = subst (λ (x : Layout). (g.a < home_a x 0) × (g.b < home_a x 0)) same (record_below k g.a g.b g.logged.in_record) in
       record {
         seen = then_seen g.seen g.worn;
         worn = then_worn g.seen g.worn;
@@ -203,10 +196,10 @@ module _ (l : Layout) (mid now : Moment) (writes : WritesIn (is_data l) mid now)
   pub written_behind : (s t : State) (before after : ℕ → Option (List ℕ)) → t.layout ≡ l → IsBehindForce s t before after mid → IsBehindForce s (with_drawn t) before after now
   written_behind s t before after same behind = record { layout = behind.layout; free_pages = behind.free_pages; pages = pages; untaken = behind.untaken }
     where
-      pages : (page : ℕ) (bytes : List ℕ) → after page ≡ Some bytes → (before page ≡ Some bytes) ⊎ StandsInLog (with_drawn t) now page bytes
+      pages : (page : ℕ) (bytes : List ℕ) → after page ≡ Some bytes → (before page ≡ Some bytes) ⊎ StandsLogged t.layout t.slots now page bytes
       pages page bytes is = elim (behind.pages page bytes is) [
         | inl was ↦ inl was
-        | inr g ↦ inr (record { log = g.log; layout = g.layout; slots = g.slots; stands = logged_still g.log (g.layout ∙ same) page bytes g.stands })
+        | inr stands ↦ inr (logged_still t.layout same t.slots page bytes stands)
       ]
 
 -- a force comes by itself, behind a place that was found and a version that was written

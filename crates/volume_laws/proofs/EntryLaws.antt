@@ -19,7 +19,7 @@ use Rattle.fsd_files.specs.Answers.{entry_of, entry_reply, found_or}
 use Rattle.fsd_files.specs.declared.reply.Reply.{Reply}
 use Rattle.fsd_files.specs.Volume.{Volume}
 use Rattle.fsd_sound.specs.Homes.{AreHomesOf}
-use Rattle.log_thirds.specs.Images.{AreOfSlot}
+use Rattle.fsd_log.specs.Slots.{AreOfSlot}
 use Rattle.log_thirds.specs.LogValue.{LogValue}
 use Rattle.group_commit.specs.Newest.{AreCopiesIn as AreCopiesBy}
 use Rattle.group_commit.specs.contracts.newest.NewestPageSource.TheImpl as by_log

@@ -10,7 +10,8 @@ use Rattle.sector_disk.specs.declared.machine.LoadFault.TheVariants as fault
 use Rattle.sector_disk.specs.Machine.{Ledger, Moment}
 use Rattle.sector_disk.specs.Written.{WroteMost}
 use Rattle.sector_disk.proofs.Damage.{lost_as}
-use Rattle.log_thirds.specs.Images.{AreOfLogged, AreOfSlot}
+use Rattle.log_thirds.specs.Images.{AreOfLogged}
+use Rattle.fsd_log.specs.Slots.{AreOfSlot}
 use Rattle.group_commit.specs.Entering.{LosesLogged}
 use Rattle.group_commit.specs.Room.{pages_in_first, sectors_before}
 use Rattle.volume_contract.specs.Causes.{AreSomeCopies, HasCallCause}

@@ -24,10 +24,10 @@ use Rattle.page_cache.specs.Cache.{CacheValue}
 use Rattle.name_btree.specs.declared.fault.TreeFault.{TreeFault}
 use Rattle.name_btree.specs.declared.lookup.FoundEntry.{FoundEntry}
 use Rattle.name_btree.specs.Fault.{outer_told}
-use Rattle.volume_contract.specs.Absent.{ReachesPage, ShowsReached}
+use Rattle.fsd_table.specs.Reached.{ReachesPage, HasEntry}
+use Rattle.volume_contract.specs.Found.{ShowsReached, HasRange}
 use Rattle.volume_contract.specs.Causes.{IsRead, IsTaken, ShowsOfPages, StoodInCopy}
 use Rattle.volume_contract.specs.Ends.{ReadsRange, count_in, found_one}
-use Rattle.volume_contract.specs.Found.{HasEntry, HasRange}
 use Rattle.volume_contract.specs.State.{State}
 use Rattle.cached_table.specs.Looking.{HavePages, LeadsTo, LooksOnly, told_from}
 use Rattle.volume_laws.specs.Meeting.{met_found}

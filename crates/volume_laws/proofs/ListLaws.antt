@@ -8,7 +8,7 @@ use Rattle.run_table.specs.Space.{contains, where_free}
 use Rattle.sector_set.proofs.FreeLaws.{contains_where, contains_where_outside}
 use Rattle.fsd_log.specs.Scan.{Placed}
 use Rattle.fsd_sound.specs.Mounted.{Mounted}
-use Rattle.log_thirds.specs.Slots.{AreLastSlots}
+use Rattle.fsd_log.specs.Slots.{AreLastSlots}
 use Rattle.volume_contract.specs.State.{ListsPages}
 use Rattle.volume_laws.specs.State.{IsMemoryOf, state}
 use Rattle.volume_laws.specs.Volume.{VolumeValue}

@@ -9,10 +9,11 @@ use Rattle.fsd_formats.specs.declared.anchor.Anchor.{Anchor}
 use Rattle.fsd_log.specs.Scan.{Head, place_of, spot_for}
 use Rattle.log_thirds.specs.Append.{log_with}
 use Rattle.log_thirds.specs.LogValue.{LogValue}
-use Rattle.log_thirds.specs.Moves.{head_back}
-use Rattle.log_thirds.specs.Moving.{moved, next_third, slot_outside}
-use Rattle.log_thirds.specs.declared.slots.Slot.{Slot}
-use Rattle.log_thirds.proofs.SlotLaws.{length-noted}
+use Rattle.fsd_log.specs.Moves.{head_back, next_third}
+use Rattle.log_thirds.specs.Moving.{moved}
+use Rattle.fsd_log.specs.Slots.{slot_outside}
+use Rattle.fsd_log.specs.declared.slot.Slot.{Slot}
+use Rattle.fsd_log.proofs.SlotLaws.{length-noted}
 use Rattle.group_commit.specs.Cached.{ascending_of}
 use Rattle.group_commit.specs.Force.{log_forced}
 use Rattle.group_commit.specs.Room.{goes_before, log_before}

@@ -18,17 +18,17 @@ use Rattle.fsd_files.proofs.KeptLaws.{has_on}
 use Rattle.volume_layout.specs.declared.layout.Layout.{Layout}
 use Rattle.volume_layout.specs.Layout.{data_start}
 use Rattle.sector_set.specs.Area.{Area}
-use Rattle.log_thirds.specs.Images.{AreOfSlot}
+use Rattle.fsd_log.specs.Slots.{AreOfSlot}
 use Rattle.log_thirds.specs.LogValue.{LogValue}
 use Rattle.log_thirds.specs.Append.{stamp_now}
 use Rattle.page_cache.specs.Cache.{CacheValue, Held, IsCache, IsResident, cached_bytes, cleaned, held, is_among}
 use Rattle.group_commit.specs.Cached.{held_stamped, stamped_for}
-use Rattle.log_thirds.specs.Logged.{StandsLogged}
+use Rattle.fsd_sound.specs.Logged.{StandsLogged}
 use Rattle.group_commit.proofs.FrameLaws.{held_then}
 use Rattle.group_commit.proofs.ImageLaws.{all_at}
 use Rattle.volume_contract.specs.Causes.{HasUntaken, meets_held}
 use Rattle.volume_contract.specs.Logged.{AllLogged, StandsInBothCopies}
-use Rattle.volume_contract.specs.Behind.{IsBehindForce, StandsInLog}
+use Rattle.volume_contract.specs.Behind.{IsBehindForce}
 use Rattle.volume_laws.specs.State.{freed_sectors, resident, state}
 use Rattle.volume_contract.specs.State.{held_of, held_runs}
 use Rattle.volume_laws.specs.Volume.{IsWholeVolume, VolumeValue}
@@ -113,7 +113,7 @@ module _ (v w : VolumeValue) (was : IsWholeVolume v) (whole : IsWholeVolume w) (
 
   -- ---- pages
 
-  pub forced_behind : (now : Moment) → ((page : ℕ) (bytes : List ℕ) → IsTrue (contains v.cache.dirty page) → cached_bytes w.cache page ≡ Some bytes → StandsLogged w.log now page bytes) → IsBehindForce (state v) (state w) (resident v) (resident w) now
+  pub forced_behind : (now : Moment) → ((page : ℕ) (bytes : List ℕ) → IsTrue (contains v.cache.dirty page) → cached_bytes w.cache page ≡ Some bytes → StandsLogged w.log.layout w.log.slots now page bytes) → IsBehindForce (state v) (state w) (resident v) (resident w) now
   forced_behind now logged = record {
     layout = to.layout;
     free_pages = ap (λ (flags : List Bool). where_free (λ page. slice_index_or flags page false) 0 (length flags)) to.free_pages;
@@ -121,12 +121,12 @@ module _ (v w : VolumeValue) (was : IsWholeVolume v) (whole : IsWholeVolume w) (
     untaken = untaken_before;
   }
     where
-      by : (page : ℕ) (bytes : List ℕ) → cached_bytes w.cache page ≡ Some bytes → (b : Bool) → is_among v.cache.dirty page ≡ b → (cached_bytes v.cache page ≡ Some bytes) ⊎ StandsInLog (state w) now page bytes
-      by page bytes there true waiting = inr (record { log = w.log; layout = whole.log; slots = refl; stands = logged page bytes waiting there })
+      by : (page : ℕ) (bytes : List ℕ) → cached_bytes w.cache page ≡ Some bytes → (b : Bool) → is_among v.cache.dirty page ≡ b → (cached_bytes v.cache page ≡ Some bytes) ⊎ StandsLogged w.layout w.log.slots now page bytes
+      by page bytes there true waiting = inr (subst (λ (l : Layout). StandsLogged l w.log.slots now page bytes) whole.log (logged page bytes waiting there))
       by page bytes there false clean = inl (sym (ap (λ (c : CacheValue). cached_bytes c page) to.cache ∙ clean_bytes v.log v.cache page clean) ∙ there)
 
   -- a page that waited is in memory
-  pub forced_logged : IsCache v.cache → (now : Moment) → ((page : ℕ) (bytes : List ℕ) → IsTrue (contains v.cache.dirty page) → cached_bytes w.cache page ≡ Some bytes → StandsLogged w.log now page bytes) → AllLogged (state v) (state w) (resident w) now
+  pub forced_logged : IsCache v.cache → (now : Moment) → ((page : ℕ) (bytes : List ℕ) → IsTrue (contains v.cache.dirty page) → cached_bytes w.cache page ≡ Some bytes → StandsLogged w.log.layout w.log.slots now page bytes) → AllLogged (state v) (state w) (resident w) now
   forced_logged valid now logged page waited_for = by (held v.cache page) refl (all_at (IsResident v.cache) v.cache.dirty valid.waiting page waited_for)
     where
       now_held : Held → Held
@@ -137,7 +137,7 @@ module _ (v w : VolumeValue) (was : IsWholeVolume v) (whole : IsWholeVolume w) (
           ap (λ (c : CacheValue). cached_bytes c page) to.cache
           ∙ ap (option_map (λ (h : Held). h.bytes)) (held_then (stamp_now v.log) v.cache.dirty v.cache page ∙ ap (option_map now_held) is)
 
-      stands : (bytes : List ℕ) → cached_bytes w.cache page ≡ Some bytes → StandsLogged w.log now page bytes → StandsInBothCopies (state w) (resident w) now page
+      stands : (bytes : List ℕ) → cached_bytes w.cache page ≡ Some bytes → StandsLogged w.log.layout w.log.slots now page bytes → StandsInBothCopies (state w) (resident w) now page
       stands bytes there s =
           let may = open_damage now.windows in
           let copies : AreOfSlot w.layout (slice_index_or w.log.slots page None) s.a s.b = subst (λ (l : Layout). AreOfSlot l (slice_index_or w.log.slots page None) s.a s.b) whole.log s.logged in

@@ -13,9 +13,10 @@ use Rattle.fsd_texts.specs.declared.call.Call.{Call}
 use Rattle.fsd_texts.specs.declared.call.Call.TheVariants as Calls
 use Rattle.fsd_texts.specs.declared.fault.Fault.{Fault}
 use Rattle.sector_disk.specs.Machine.{Ledger, Moment}
-use Rattle.volume_contract.specs.Absent.{LacksKey, LacksLater, ReachesPage}
+use Rattle.fsd_sound.specs.Lookups.{LacksKey, LacksLater}
+use Rattle.fsd_table.specs.Reached.{ReachesPage, HasEntry}
 use Rattle.volume_contract.specs.Causes.{ShowsOfPages}
-use Rattle.volume_contract.specs.Found.{HasEntry, HasRange}
+use Rattle.volume_contract.specs.Found.{HasRange}
 use Rattle.volume_contract.specs.State.{Ages, State, force_len}
 use Rattle.volume_contract.specs.Upgrade.{RootsStand}
 use Rattle.scrub.specs.Looking.{AreDamaged}

@@ -5,7 +5,8 @@ use Rattle.sector_disk.specs.Machine.{Ledger, wrote}
 use Rattle.sector_disk.proofs.CallLaws.{told_up, writes_then, writes_told}
 use Rattle.log_thirds.specs.Append.{IsIndexed, IsLogWorn}
 use Rattle.log_thirds.specs.LogValue.{LogValue}
-use Rattle.log_thirds.specs.Moving.{moved_anchor, records_moved}
+use Rattle.log_thirds.specs.Moving.{moved_anchor}
+use Rattle.fsd_log.specs.Moves.{records_moved}
 use Rattle.group_commit.specs.Entering.{EntersNot}
 use Rattle.group_commit.specs.Room.{pages_in_first}
 use Rattle.group_commit.proofs.CountLaws.{handed_up, wrote_on}

@@ -6,7 +6,7 @@ use Rattle.sector_disk.proofs.CallLaws.{told_up, writes_none, writes_then, write
 use Rattle.sector_disk.proofs.Holding.{wears_none}
 use Rattle.fsd_log.specs.Scan.{Placed}
 use Rattle.log_thirds.specs.Append.{IsIndexed, IsLeastOfThird, NoneOfThird}
-use Rattle.log_thirds.specs.Slots.{IsLeastIn, NoneLiesIn}
+use Rattle.fsd_log.specs.Slots.{IsLeastIn, NoneLiesIn}
 use Rattle.group_commit.specs.Entering.{HomesInPart, ShowsStill}
 use Rattle.group_commit.specs.Room.{pages_in_first}
 use Rattle.group_commit.proofs.CountLaws.{count_next, count_done, count_part, wrote_on, wrote_none, handed_up}

@@ -5,7 +5,7 @@ use Rattle.sector_disk.specs.declared.sector.WeakRun.{WeakRun}
 use Rattle.sector_disk.specs.Calls.{WritesDisk}
 use Rattle.sector_disk.specs.Machine.{wrote}
 use Rattle.fsd_log.specs.Scan.{Placed}
-use Rattle.log_thirds.specs.Slots.{lies_in}
+use Rattle.fsd_log.specs.Slots.{lies_in}
 use Rattle.group_commit.specs.Entering.{ShowsStill, OwnsLog, IsHoming, MayHome}
 use Rattle.group_commit.specs.Force.{KeepsOutside}
 use Rattle.group_commit.proofs.entering.home_third.Given as goal

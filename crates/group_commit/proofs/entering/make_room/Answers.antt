@@ -5,7 +5,8 @@ use Rattle.sector_disk.proofs.CallLaws.{writes_none}
 use Rattle.sector_disk.proofs.Holding.{wears_none}
 use Rattle.fsd_log.specs.Scan.{HasRoom}
 use Rattle.log_thirds.specs.LogValue.{LogValue}
-use Rattle.log_thirds.specs.Moving.{moved, records_moved}
+use Rattle.log_thirds.specs.Moving.{moved}
+use Rattle.fsd_log.specs.Moves.{records_moved}
 use Rattle.group_commit.specs.Entering.{OwnsLog, ShowsStill}
 use Rattle.group_commit.specs.Force.{KeepsOutside}
 use Rattle.group_commit.proofs.HomingLaws.{begin, stays}

@@ -22,7 +22,7 @@ use Rattle.group_commit.specs.Commit.{LogsNoPages}
 use Rattle.group_commit.specs.Entering.{HasRoomNow, MayHome, ShowsStill}
 use Rattle.group_commit.specs.Force.{StandsOverDisk, Committed, KeepsOutside}
 use Rattle.group_commit.specs.Cached.{HasImages, RecordLeaves}
-use Rattle.log_thirds.specs.Logged.{StandsLogged}
+use Rattle.fsd_sound.specs.Logged.{StandsLogged}
 use Rattle.group_commit.specs.Newest.{KnowsImages}
 use Rattle.group_commit.specs.Resident.{ResidentValue, stamped}
 use Rattle.group_commit.specs.Room.{sectors_before}
@@ -248,8 +248,8 @@ returns-clause-logged g c h k lt =
     let after = c.make_room.new.log in
     let new = M.now c.append.new.m in
     let page : ℕ = get_or c.args.dirty.now k 0 in
-    subst (λ (x : LogValue). StandsLogged x new page (sector_in c.args.room.now k)) (sym c.in_ok-append.ensures.done.past)
-    (subst (StandsLogged (log_with after dirty) new page) (slice_in_front c.args.room.now (length dirty) k lt)
+    subst (λ (x : LogValue). StandsLogged x.layout x.slots new page (sector_in c.args.room.now k)) (sym c.in_ok-append.ensures.done.past)
+    (subst (StandsLogged (log_with after dirty).layout (log_with after dirty).slots new page) (slice_in_front c.args.room.now (length dirty) k lt)
     (stands_logged after dirty (images g c1) (M.now c.make_room.new.m) new (may_append g c1 h) k lt c.append.ensures.shape.table (c.in_ok-append.ensures.done.stands h)))
 
 pub returns-clause-rest : goal.returns-clause-rest

@@ -1,5 +1,5 @@
 use Rattle.fsd_log.specs.Scan.{tape}
-use Rattle.log_thirds.proofs.ShiftLaws.{moves_on, tape_shifts, tape_around}
+use Rattle.fsd_log.proofs.ShiftLaws.{moves_on, tape_shifts, tape_around}
 use Rattle.log_thirds.proofs.laws.logs_move_on.Goals as goal
 
 pub returns : goal.returns

@@ -1,7 +1,7 @@
 use Rattle.std.proofs.Common.{map, None, arith, sym, ◌∙◌}
 use Rattle.std.proofs.lemmas.List.{ext_get_or, get_or-map}
 use Rattle.std.proofs.lemmas.List.{length-map}
-use Rattle.log_thirds.specs.Moving.{slot_outside}
+use Rattle.fsd_log.specs.Slots.{slot_outside}
 use Rattle.log_thirds.proofs.slots.drop_in.Goals as goal
 
 pub returns : goal.returns

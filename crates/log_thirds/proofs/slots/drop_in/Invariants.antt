@@ -1,5 +1,5 @@
 use Rattle.std.proofs.Common.{◌≡◌, ℕ, ◌<◌, ◌≤◌, get_or, None}
-use Rattle.log_thirds.specs.Moving.{slot_outside}
+use Rattle.fsd_log.specs.Slots.{slot_outside}
 use Rattle.log_thirds.proofs.slots.drop_in.Given as goal
 
 abbrev pub invariant-loop-slot : goal.invariant-loop-slot

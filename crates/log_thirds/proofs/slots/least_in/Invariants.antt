@@ -1,6 +1,6 @@
 use Rattle.std.proofs.Common.{◌≡◌, ◌<◌, ◌≤◌, ℕ, None, false}
 use Rattle.std.specs.Prelude.{slice_index_or}
-use Rattle.log_thirds.specs.Slots.{lies_in}
+use Rattle.fsd_log.specs.Slots.{lies_in}
 use Rattle.log_thirds.proofs.slots.least_in.Given as goal
 
 abbrev pub invariant-loop-page : goal.invariant-loop-page

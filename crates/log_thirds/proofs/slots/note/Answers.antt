@@ -1,6 +1,6 @@
 use Rattle.std.proofs.Common.{◌+◌, length, ap, ◌∙◌, ℕ}
 use Rattle.volume_layout.specs.Kinds.{more}
-use Rattle.log_thirds.specs.Slots.{noted_slots}
+use Rattle.fsd_log.specs.Slots.{noted_slots}
 use Rattle.log_thirds.proofs.slots.note.Goals as goal
 
 pub returns : goal.returns

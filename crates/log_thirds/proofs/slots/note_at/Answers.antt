@@ -1,7 +1,7 @@
 use Rattle.std.proofs.Common.{◌≡◌, ◌+◌, ◌-◌, ℕ, List, length, drop, get_or, set, Some, Option, arith, ap, ◌∙◌}
-use Rattle.log_thirds.specs.declared.slots.Slot.{Slot}
-use Rattle.log_thirds.specs.Slots.{noted_slots}
-use Rattle.log_thirds.proofs.SlotLaws.{noted_none, noted_step}
+use Rattle.fsd_log.specs.declared.slot.Slot.{Slot}
+use Rattle.fsd_log.specs.Slots.{noted_slots}
+use Rattle.fsd_log.proofs.SlotLaws.{noted_none, noted_step}
 use Rattle.log_thirds.proofs.slots.note_at.Goals as goal
 
 pub loop-k-init : goal.loop-k-init

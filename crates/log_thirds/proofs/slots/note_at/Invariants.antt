@@ -1,5 +1,5 @@
 use Rattle.std.proofs.Common.{◌≡◌, ◌+◌, ◌-◌, length, drop}
-use Rattle.log_thirds.specs.Slots.{noted_slots}
+use Rattle.fsd_log.specs.Slots.{noted_slots}
 use Rattle.log_thirds.proofs.slots.note_at.Given as goal
 
 abbrev pub invariant-loop-k : goal.invariant-loop-k

@@ -16,7 +16,9 @@ use Rattle.scrub.proofs.ToldLaws.{next_refuses}
 use Rattle.volume_turns.proofs.ToldLaws.{told_of}
 use Rattle.std.specs.Prelude.{IfNone}
 use Rattle.fsd_bytes.specs.declared.key.Key.{Key}
-use Rattle.volume_contract.specs.Absent.{LacksLater, ReachesPage, ShowsReached}
+use Rattle.fsd_sound.specs.Lookups.{LacksLater}
+use Rattle.fsd_table.specs.Reached.{ReachesPage}
+use Rattle.volume_contract.specs.Found.{ShowsReached}
 use Rattle.volume_contract.specs.Causes.{ShowsOfPages}
 use Rattle.volume_turns.proofs.ReasonLaws.{HasMet, met_more, met_none}
 use Rattle.volume_turns.proofs.listing.collect.Goals as goal

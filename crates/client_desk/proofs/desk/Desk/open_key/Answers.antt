@@ -1,9 +1,9 @@
 use Rattle.std.proofs.Common.{◌≡◌, ◌<◌, ◌∙◌, ℕ, set, List, Option, Some, refl, arith, sym, ap, subst, length}
 use Rattle.run_table.specs.declared.run.Run.{Run}
 use Rattle.fsd_bytes.specs.declared.refusal.Refusal.TheVariants as Why
-use Rattle.volume_contract.specs.Absent.{ShowsReached}
+use Rattle.volume_contract.specs.Found.{ShowsReached}
 use Rattle.volume_contract.specs.Causes.{HasCallCause}
-use Rattle.volume_contract.specs.Found.{HasEntry}
+use Rattle.fsd_table.specs.Reached.{HasEntry}
 use Rattle.volume_contract.specs.Pieces.{HoldsAt}
 use Rattle.volume_contract.specs.State.{State}
 use Rattle.client_desk.specs.declared.client.Reader.{Reader}

@@ -10,10 +10,10 @@ use Rattle.fsd_log.specs.Scan.{IsIn, IsEnd, Placed, spot_for, place_of}
 use Rattle.log_thirds.specs.LogValue.{FitsLayout, LogValue}
 use Rattle.std.proofs.lemmas.Result.{err_from_is_err_and}
 use Rattle.log_thirds.specs.Append.{AppendsWorn, StandsInPart, IsLogWorn, stamp_now, next_record, log_with, IsIndexed}
-use Rattle.log_thirds.specs.Slots.{noted_slots, LieInRecords, SlotsInside}
+use Rattle.fsd_log.specs.Slots.{noted_slots, LieInRecords, SlotsInside}
 use Rattle.log_thirds.specs.Firsts.{firsts_with, AreNumbers}
 use Rattle.log_thirds.proofs.FirstsLaws.{firsts_more, numbers_more}
-use Rattle.log_thirds.proofs.SlotLaws.{length-noted, slots_more, record_inside, record_lies}
+use Rattle.fsd_log.proofs.SlotLaws.{length-noted, slots_more, record_inside, record_lies}
 use Rattle.std.specs.List.{AllByRecursion}
 use Rattle.std.specs.Vec.{with_items}
 use Rattle.std.proofs.lemmas.List.{with_items_is}

@@ -1,6 +1,6 @@
 use Rattle.std.proofs.Common.{◌≡◌, ◌<◌, false, List, Option, Some, None, length, get_or, refl, sym, ap, subst, arith, ◌∙◌, is_some}
 use Rattle.std.proofs.lemmas.List.{get_or_read}
-use Rattle.log_thirds.specs.declared.slots.Slot.{Slot}
+use Rattle.fsd_log.specs.declared.slot.Slot.{Slot}
 use Rattle.log_thirds.specs.LogValue.{LogValue}
 use Rattle.log_thirds.proofs.ImageLaws.{image_nowhere}
 use Rattle.log_thirds.proofs.thirds.Log.has.Goals as goal

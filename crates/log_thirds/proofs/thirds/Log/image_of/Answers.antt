@@ -8,12 +8,12 @@ use Rattle.sector_disk.proofs.Damage.{lost_as}
 use Rattle.fsd_log.specs.Images.{last_image}
 use Rattle.fsd_log.specs.Places.{LieInRecord}
 use Rattle.fsd_log.specs.Scan.{Placed}
-use Rattle.log_thirds.specs.declared.slots.Slot.{Slot}
+use Rattle.fsd_log.specs.declared.slot.Slot.{Slot}
 use Rattle.log_thirds.specs.Append.{IsCalmNow, IsIndexed, scan_of}
 use Rattle.log_thirds.specs.Disk.{reads}
 use Rattle.log_thirds.specs.LogValue.{LogValue}
-use Rattle.log_thirds.specs.Slots.{LieInRecords}
-use Rattle.log_thirds.specs.Images.{AreLogged, GivesLast, GivesSlot, LiesAt, SeesSlot, StandsInSlot}
+use Rattle.fsd_log.specs.Slots.{LieInRecords, LiesAt}
+use Rattle.log_thirds.specs.Images.{AreLogged, GivesLast, GivesSlot, SeesSlot, StandsInSlot}
 use Rattle.log_thirds.proofs.ImageLaws.{image_there, image_nowhere, slot_seen, stands_there}
 use Rattle.log_thirds.proofs.thirds.Log.image_of.Given as given
 use Rattle.log_thirds.proofs.thirds.Log.image_of.Goals.{After-index}

@@ -12,11 +12,13 @@ use Rattle.fsd_log.specs.Scan.{IsIn, Placed}
 use Rattle.fsd_log.specs.Places.{LieInRecord}
 use Rattle.log_thirds.specs.Append.{IsIndexed, IsLogWorn}
 use Rattle.log_thirds.specs.Anchoring.{AnchorsIn, with_anchors}
-use Rattle.log_thirds.specs.Slots.{LieInRecords, SlotsInside}
+use Rattle.fsd_log.specs.Slots.{LieInRecords, SlotsInside, slot_outside}
 use Rattle.log_thirds.specs.LogValue.{LogValue}
-use Rattle.log_thirds.specs.Moving.{MovesWorn, next_third, moved_anchor, moved, slot_outside, records_moved}
+use Rattle.log_thirds.specs.Moving.{MovesWorn, moved_anchor, moved}
+use Rattle.fsd_log.specs.Moves.{next_third, records_moved}
 use Rattle.log_thirds.proofs.AnchoringLaws.{anchored}
-use Rattle.log_thirds.proofs.MovingLaws.{MayMove, next_low, moved_in, moves_worn, moved_part, indexed_moved, slots_outside_each}
+use Rattle.log_thirds.proofs.MovingLaws.{MayMove, moves_worn, moved_part, indexed_moved}
+use Rattle.fsd_log.proofs.MovedLaws.{next_low, moved_in, slots_outside_each}
 use Rattle.log_thirds.proofs.thirds.Log.move_anchor.Given as given
 use Rattle.log_thirds.proofs.thirds.Log.move_anchor.Goals.{After-drop_in, After-write_anchor}
 use Rattle.log_thirds.proofs.thirds.Log.move_anchor.Goals as goal

@@ -5,14 +5,14 @@ use Rattle.std.proofs.lemmas.List.{length-replicate, with_items_is}
 use Rattle.std.proofs.lemmas.Result.{err_from_is_err_and}
 use Rattle.sector_disk.specs.Machine.{Holds}
 use Rattle.fsd_formats.specs.declared.anchor.Anchor.{Anchor}
-use Rattle.log_thirds.specs.declared.slots.Slot.{Slot}
+use Rattle.fsd_log.specs.declared.slot.Slot.{Slot}
 use Rattle.log_thirds.specs.Anchoring.{next_epoch, with_anchors}
 use Rattle.log_thirds.specs.Copies.{FitsDisk, copies_count}
 use Rattle.log_thirds.specs.Firsts.{AreNumbers}
 use Rattle.log_thirds.specs.LogValue.{LogValue}
-use Rattle.log_thirds.specs.Slots.{LieInRecords, SlotsInside}
+use Rattle.fsd_log.specs.Slots.{LieInRecords, SlotsInside}
 use Rattle.log_thirds.proofs.AnchoringLaws.{anchored}
-use Rattle.log_thirds.proofs.SlotLaws.{none_inside, none_lie}
+use Rattle.fsd_log.proofs.SlotLaws.{none_inside, none_lie}
 use Rattle.log_thirds.proofs.thirds.Log.new_epoch.Given as given
 use Rattle.log_thirds.proofs.thirds.Log.new_epoch.Goals.{After-clear-2}
 use Rattle.log_thirds.proofs.thirds.Log.new_epoch.Goals as goal

@@ -1,9 +1,9 @@
 use Rattle.std.proofs.Common.{◌≡◌, ℕ, List, length, Option, subst, ap, ◌∙◌}
 use Rattle.std.specs.Prelude.{IfSome, IfNone}
 use Rattle.volume_layout.specs.Layout.{third_start}
-use Rattle.log_thirds.specs.declared.slots.Slot.{Slot}
+use Rattle.fsd_log.specs.declared.slot.Slot.{Slot}
 use Rattle.log_thirds.specs.LogValue.{LogValue}
-use Rattle.log_thirds.specs.Slots.{IsLeastIn, NoneLiesIn}
+use Rattle.fsd_log.specs.Slots.{IsLeastIn, NoneLiesIn}
 use Rattle.log_thirds.proofs.ThirdLaws.{least_of_third, none_of_third}
 use Rattle.log_thirds.proofs.thirds.Log.pages_of_third.Goals as goal
 

@@ -4,14 +4,14 @@ use Rattle.std.proofs.lemmas.List.{length-replicate, with_items_is}
 use Rattle.std.specs.Vec.{with_items}
 use Rattle.sector_disk.proofs.CallLaws.{reads_none, reads_then}
 use Rattle.log_thirds.specs.declared.find.ScanStep.{ScanStep}
-use Rattle.log_thirds.specs.declared.slots.Slot.{Slot}
+use Rattle.fsd_log.specs.declared.slot.Slot.{Slot}
 use Rattle.fsd_log.specs.Scan.{Head, tape, scan, next, last_number}
 use Rattle.log_thirds.specs.Disk.{reads}
-use Rattle.log_thirds.specs.Slots.{noted_slots, slots_with, LieInRecords, SlotsInside}
+use Rattle.fsd_log.specs.Slots.{noted_slots, slots_with, LieInRecords, SlotsInside}
 use Rattle.log_thirds.specs.Reading.{StepsOn, stepped_in, stepped_of}
 use Rattle.volume_layout.proofs.RootLaws.{planned_bounds}
 use Rattle.volume_layout.specs.Kinds.{gap_of}
-use Rattle.log_thirds.proofs.SlotLaws.{length-noted, none_inside, none_lie, record_inside, record_lies}
+use Rattle.fsd_log.proofs.SlotLaws.{length-noted, none_inside, none_lie, record_inside, record_lies}
 use Rattle.log_thirds.specs.Copies.{FitsDisk, AreCopies, AreLastCopies, copies_count}
 use Rattle.fsd_log.proofs.PlaceLaws.{InThird, place_inside, end_most}
 use Rattle.log_thirds.proofs.ScanLaws.{Reaches, EndsThere, reaches_start, reaches_as, reaches_on, reaches_end}

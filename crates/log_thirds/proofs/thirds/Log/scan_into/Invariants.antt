@@ -6,7 +6,7 @@ use Rattle.sector_disk.specs.Calls.{OnlyReads}
 use Rattle.fsd_log.specs.Scan.{IsIn, tape}
 use Rattle.log_thirds.specs.Disk.{reads}
 use Rattle.log_thirds.specs.Firsts.{AreNumbers}
-use Rattle.log_thirds.specs.Slots.{LieInRecords, SlotsInside}
+use Rattle.fsd_log.specs.Slots.{LieInRecords, SlotsInside}
 use Rattle.log_thirds.specs.Copies.{FitsDisk, copies_count}
 use Rattle.log_thirds.proofs.ScanLaws.{Reaches}
 use Rattle.log_thirds.proofs.thirds.Log.scan_into.Given as goal

@@ -3,7 +3,7 @@ use Rattle.std.specs.Prelude.{IfSome, slice_index_or, None}
 use Rattle.volume_layout.specs.Shape.{Shape}
 use Rattle.volume_layout.specs.Layout.{with_kind}
 use Rattle.fsd_log.specs.Places.{LieInRecord}
-use Rattle.log_thirds.specs.declared.slots.Slot.{Slot}
+use Rattle.fsd_log.specs.declared.slot.Slot.{Slot}
 use Rattle.log_thirds.specs.LogValue.{LogValue, IsShaped}
 use Rattle.log_thirds.proofs.thirds.Log.set_kind.Goals as goal
 

@@ -3,8 +3,7 @@ use Rattle.std.specs.Prelude.{is_none, slice_index_or}
 use Rattle.std.proofs.lemmas.Result.{err_from_is_err_and}
 use Rattle.std.specs.List.{list_any}
 use Rattle.fsd_bytes.specs.declared.refusal.Refusal.{Refusal}
-use Rattle.volume_contract.specs.Absent.{ReachesPage}
-use Rattle.volume_contract.specs.Found.{HasEntry}
+use Rattle.fsd_table.specs.Reached.{ReachesPage, HasEntry}
 use Rattle.volume_contract.specs.Pieces.{EndsHold}
 use Rattle.volume_contract.specs.State.{State}
 use Rattle.volume_laws.specs.State.{IsMemoryOf, resident, state}

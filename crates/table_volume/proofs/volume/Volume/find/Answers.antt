@@ -1,5 +1,6 @@
 use Rattle.std.specs.Prelude.{◌≡◌, IfSome}
-use Rattle.volume_contract.specs.Absent.{LacksKey, ReachesPage}
+use Rattle.fsd_sound.specs.Lookups.{LacksKey}
+use Rattle.fsd_table.specs.Reached.{ReachesPage}
 use Rattle.volume_laws.proofs.FindLaws.{finds_found}
 use Rattle.volume_laws.proofs.FoundLaws.{leaf_by}
 use Rattle.volume_laws.proofs.ReadLaws.{absent_by}

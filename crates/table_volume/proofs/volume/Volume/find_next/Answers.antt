@@ -2,8 +2,8 @@ use Rattle.std.specs.Prelude.{◌≡◌, IfSome, true}
 use Rattle.std.specs.Option.{option_copied}
 use Rattle.fsd_files.specs.Answers.{entry_after as entry_behind}
 use Rattle.name_page.specs.Lookups.{first_after, is_after}
-use Rattle.volume_contract.specs.Absent.{LacksLater, ReachesPage}
-use Rattle.volume_contract.specs.Found.{HasNext}
+use Rattle.fsd_sound.specs.Lookups.{LacksLater, HasNext}
+use Rattle.fsd_table.specs.Reached.{ReachesPage}
 use Rattle.volume_laws.proofs.FindLaws.{finds_looked}
 use Rattle.volume_laws.proofs.FoundLaws.{found_by}
 use Rattle.volume_laws.proofs.ReadLaws.{absent_by}

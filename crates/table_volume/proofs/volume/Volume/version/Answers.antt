@@ -10,10 +10,10 @@ use Rattle.fsd_formats.specs.declared.entry.Entry.{Entry}
 use Rattle.fsd_formats.specs.NamePage.{is_entry}
 use Rattle.fsd_files.specs.Answers.{entry_of as entry_in, entry_reply, found_or}
 use Rattle.name_btree.specs.Lookup.{found_entry}
-use Rattle.volume_contract.specs.Absent.{ShowsReached}
+use Rattle.volume_contract.specs.Found.{ShowsReached}
 use Rattle.volume_contract.specs.Causes.{HasCallCause, IsTaken}
 use Rattle.volume_contract.specs.Ends.{device_of}
-use Rattle.volume_contract.specs.Found.{HasEntry}
+use Rattle.fsd_table.specs.Reached.{HasEntry}
 use Rattle.volume_contract.specs.Healing.{IsMet}
 use Rattle.volume_contract.specs.Order.{Follows, entry_steps}
 use Rattle.volume_contract.specs.State.{State, volume_of}

@@ -7,11 +7,10 @@ use Rattle.std.proofs.lemmas.List.{length-set, drop_all, length-replicate, get_o
 use Rattle.volume_layout.specs.Shape.{Shape}
 use Rattle.volume_layout.specs.Kinds.{gap_of}
 use Rattle.fsd_log.specs.Scan.{Placed, place_of}
-use Rattle.log_thirds.specs.declared.slots.Slot.{Slot}
-use Rattle.log_thirds.specs.Slots.{slot_in, slot_in_record, last_slot, noted_slots, slots_with, AreLastSlots, LieInRecords, SlotsInside}
+use Rattle.fsd_log.specs.declared.slot.Slot.{Slot}
+use Rattle.fsd_log.specs.Slots.{slot_in, slot_in_record, last_slot, noted_slots, slots_with, AreLastSlots, LieInRecords, SlotsInside}
 use Rattle.fsd_log.proofs.PlaceLaws.{InThird, place_from, place_inside}
 use Rattle.fsd_log.specs.Places.{LieInRecord}
-use Rattle.sector_disk.proofs.ResultLaws.{option_or-assoc}
 
 module _ (number : ℕ) (slots : List (Option Slot)) where
   pub length-noted : (place copy : ℕ) (pages : List ℕ) → length (noted_slots number place copy pages slots) ≡ length slots
@@ -48,15 +47,19 @@ module _ (number : ℕ) (slots : List (Option Slot)) where
           get_or-set_other (noted_slots number (place + 1) (copy + 1) pages slots) p page _ None (λ e. eqb-false p page is (sym e))
           ∙ rest
 
+pub slot_or-none : (o : Option Slot) → o ≡ option_or o None
+slot_or-none None = refl
+slot_or-none (Some x) = refl
+
+pub slot_or-assoc : (a b c : Option Slot) → option_or (option_or a b) c ≡ option_or a (option_or b c)
+slot_or-assoc None b c = refl
+slot_or-assoc (Some x) b c = refl
+
 pub slot_of-append : (l : Shape) (third page : ℕ) (records : List Placed) (r : Placed) → last_slot l third page (records ++ r ∷ []) ≡ option_or (slot_in_record l third page r) (last_slot l third page records)
-slot_of-append l third page [] r = option_or-none (slot_in_record l third page r)
-  where
-    option_or-none : (o : Option Slot) → o ≡ option_or o None
-    option_or-none None = refl
-    option_or-none (Some x) = refl
+slot_of-append l third page [] r = slot_or-none (slot_in_record l third page r)
 slot_of-append l third page (q ∷ records) r =
     ap (λ (o : Option Slot). option_or o (slot_in_record l third page q)) (slot_of-append l third page records r)
-    ∙ option_or-assoc (slot_in_record l third page r) (last_slot l third page records) (slot_in_record l third page q)
+    ∙ slot_or-assoc (slot_in_record l third page r) (last_slot l third page records) (slot_in_record l third page q)
 
 -- a record more
 pub slots_more : (l : Shape) (third : ℕ) (records : List Placed) (r : Placed) (slots : List (Option Slot)) → AreLastSlots l third records slots

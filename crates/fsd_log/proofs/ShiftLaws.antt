@@ -11,7 +11,7 @@ use Rattle.fsd_log.specs.Borne.{Foreign}
 use Rattle.fsd_log.proofs.JudgedLaws.{foreign_absent}
 use Rattle.fsd_log.proofs.HereLaws.{here_none}
 use Rattle.fsd_log.specs.Scan.{last_number, IsIn, Head, Placed, Walked, room_at, window, record_here, next, scan, start, place_of, tape, IsLog}
-use Rattle.log_thirds.specs.Moves.{moved_back, head_back, IsNextThird, MovesOn}
+use Rattle.fsd_log.specs.Moves.{moved_back, head_back, IsNextThird, MovesOn}
 use Rattle.fsd_log.proofs.WalkLaws.{stamp_of, IsHere, IsThere, IsFound, GoesOn, found_goes_on, Goes, goes_of_walk, walk_of_goes, none_next}
 use Rattle.fsd_log.proofs.AppendLaws.{none_foreign, window_foreign}
 use Rattle.fsd_log.proofs.PlaceLaws.{end_most}

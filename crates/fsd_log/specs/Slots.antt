@@ -5,7 +5,7 @@ use Rattle.volume_layout.specs.Shape.{Shape}
 use Rattle.volume_layout.specs.Kinds.{gap_of}
 use Rattle.fsd_log.specs.Places.{LieInRecord}
 use Rattle.fsd_log.specs.Scan.{Placed, place_of}
-use Rattle.log_thirds.specs.declared.slots.Slot.{Slot}
+use Rattle.fsd_log.specs.declared.slot.Slot.{Slot}
 
 -- the page's slot among these pages, whose images begin at a place and their copies at another
 abbrev pub slot_in : (page number place copy : ℕ) → (pages : List ℕ) → Option Slot
@@ -56,3 +56,19 @@ pub record IsLeastIn (slots : List (Option Slot)) (first start count page : ℕ)
 -- no slot from one on lies there
 abbrev pub NoneLiesIn : List (Option Slot) → (first start count : ℕ) → Type 0
 NoneLiesIn slots first start count = (q : ℕ) → first ≤ q → q < length slots → lies_in start count (slice_index_or slots q None) ≡ false
+
+-- the slot, unless its image lies in so many sectors from a start on
+abbrev pub slot_outside : (start count : ℕ) → Option Slot → Option Slot
+slot_outside start count slot = if lies_in start count slot then None else slot
+
+-- ---- the two sectors that a slot names
+
+-- the two sectors of a page's slot: the page's own and its copy, in the record that the slot is of
+pub record LiesAt (slot : Option Slot) (a b : ℕ) : Type 0 where
+  pub number : ℕ
+  pub is : slot ≡ Some (record { place = a; copy = b; number = number })
+
+-- The sectors are those of a slot, and a page's own and its copy in a record that lies in the log.
+pub record AreOfSlot (l : Shape) (slot : Option Slot) (a b : ℕ) : Type 0 where
+  pub lies : LiesAt slot a b
+  pub in_record : LieInRecord l a b
