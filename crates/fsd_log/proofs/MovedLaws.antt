@@ -11,7 +11,7 @@ use Rattle.volume_layout.specs.Kinds.{gap_of}
 use Rattle.fsd_formats.specs.Record.{record_len}
 use Rattle.fsd_log.proofs.SlotLaws.{slot_or-assoc, slot_or-none}
 use Rattle.fsd_log.specs.Judged.{Reader}
-use Rattle.fsd_log.specs.Scan.{IsEnd, IsIn, Head, Placed, start, place_of, tape}
+use Rattle.fsd_log.specs.Scan.{IsEnd, IsIn, Head, Placed, start, place_of}
 use Rattle.fsd_log.proofs.PlaceLaws.{InThird, place_cases, first_most}
 use Rattle.fsd_log.proofs.WalkLaws.{Goes, found_goes_on}
 use Rattle.fsd_log.specs.declared.slot.Slot.{Slot}
