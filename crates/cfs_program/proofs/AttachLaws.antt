@@ -59,6 +59,9 @@ module _ {D : Type 0} {M : Ghosts D} {path : List ℕ} {sectors : ℕ} {a b z : 
   pub found_input : M.tells z → (M.ledger b).input ≡ (M.ledger a).input
   found_input t = ap (λ (l : Ledger). l.input) (x.finds.asked (x.runs.tells t))
 
+  pub found_syncs : M.tells z → (M.ledger b).syncs ≡ (M.ledger a).syncs
+  found_syncs t = ap (λ (l : Ledger). l.syncs) (x.finds.asked (x.runs.tells t))
+
   pub found_attaches : M.tells z → (M.ledger z).attaches ≡ (M.ledger b).attaches → (M.ledger z).attaches ≡ (M.ledger a).attaches ++ mount_asks path
   found_attaches t same = same ∙ ap (λ (l : Ledger). l.attaches) (x.finds.asked (x.runs.tells t))
 
@@ -129,8 +132,8 @@ module _ {D : Type 0} {M : Ghosts D} {path : List ℕ} {failed : Failed} {a b z 
   unfound_asks t = by (x.asked (x.says.trust.tells t))
     where
       by : (M.ledger b ≡ M.ledger a) ⊎ (M.ledger b ≡ asked_for (M.ledger a) path Old) → AsksAtMost (mount_asks path) (M.ledger a) (M.ledger z)
-      by (inl same) = let is = x.ledger t ∙ same in record { input = ap (λ (l : Ledger). l.input) is; attaches = inr (ap (λ (l : Ledger). l.attaches) is) }
-      by (inr asked) = let is = x.ledger t ∙ asked in record { input = ap (λ (l : Ledger). l.input) is; attaches = inl (ap (λ (l : Ledger). l.attaches) is) }
+      by (inl same) = let is = x.ledger t ∙ same in record { input = ap (λ (l : Ledger). l.input) is; syncs = ap (λ (l : Ledger). l.syncs) is; attaches = inr (ap (λ (l : Ledger). l.attaches) is) }
+      by (inr asked) = let is = x.ledger t ∙ asked in record { input = ap (λ (l : Ledger). l.input) is; syncs = ap (λ (l : Ledger). l.syncs) is; attaches = inl (ap (λ (l : Ledger). l.attaches) is) }
 
   pub unfound_outside : IsFalse (is_from_outside status) → ⊥
   unfound_outside inside = failed_not status x.for inside

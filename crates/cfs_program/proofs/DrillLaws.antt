@@ -200,6 +200,7 @@ module _ {D : Type 0} (M : Ghosts D) where
       unfailed = λ unfailed. input_alone (M.report a) (M.report b) (spares_none (M.report a) (M.report b) result d.spares unfailed);
       attaches = λ t. inr (unasked t);
       attached = λ inside t. unasked t ∙ sym (append-nil (M.ledger a).attaches);
+      syncs = λ t. ap (λ (x : Ledger). x.syncs) (d.ledger t);
       taken = λ t. ap (λ (x : Ledger). x.input) (d.ledger t);
       spared = d.spares.input;
       input = λ five t. absurd (never 5 (λ e. omega (arith, e)) (λ e. omega (arith, e)) (λ e. omega (arith, e)) d.status five);

@@ -32,7 +32,7 @@ use Rattle.volume_turns.proofs.StatusLaws.{as_not_low, not_as}
 use Rattle.volume_turns.specs.Line.{is_unsaid, EndsLast, EndsWith, IsStatusAs}
 use Rattle.cfs_program.specs.Formatting.{AsksAll, AsksAtMost, IsFormatStatus, RunsFormat, SparesUnplanned, format_status, plan_asks}
 use Rattle.cfs_program.specs.Opening.{AsksOrNot, is_from_outside, mount_asks}
-use Rattle.cfs_program.specs.Program.{LeavesInput, Ran, SaysAlone, SaysAnswer, asks_of, WritesAlone, SaysLine, SparesImage, SparesInput, complete_statuses, fault_statuses, field_line, input_for, plan_faults}
+use Rattle.cfs_program.specs.Program.{LeavesInput, Ran, SaysAlone, SaysAnswer, SyncsAtMost, asks_of, WritesAlone, SaysLine, SparesImage, SparesInput, complete_statuses, fault_statuses, field_line, input_for, plan_faults}
 use Rattle.fsd_runs.specs.Commands.{is_status_of}
 use Rattle.cfs_program.proofs.AmongLaws.{one_at}
 use Rattle.cfs_program.proofs.AttachLaws.{EndsUnfound, unfound_ages, unfound_alone, unfound_asks, unfound_counts, unfound_last, unfound_leaves, unfound_outside, unfound_reading, unfound_trust}
@@ -89,6 +89,7 @@ module _ {D : Type 0} (M : Ghosts D) (path : List ℕ) (a b : D) (line : Line) (
     unfailed = λ unfailed. input_alone (M.report a) (M.report b) (spares_none (M.report a) (M.report b) result says.spares unfailed);
     attaches = λ t. inr (unasked t);
     attached = λ inside t. unasked t ∙ sym (append-nil (M.ledger a).attaches);
+    syncs = λ t. ap (λ (x : Ledger). x.syncs) (ledger t);
     taken = λ t. ap (λ (x : Ledger). x.input) (ledger t);
     spared = says.spares.input;
     input = λ five t. absurd (not_as 5 2 result (λ e. omega (arith, e)) (λ e. omega (arith, e)) status five);
@@ -185,6 +186,13 @@ input_spared (Put name keep) old new same = tt
 input_spared Script old new same = tt
 input_spared request old new same = same
 
+syncs_none : (request : Request) (Honest : Type 0) (old new : Ledger) → new.syncs ≡ old.syncs → SyncsAtMost request Honest old new
+syncs_none (Put name keep) Honest old new same = omega (arith, same)
+syncs_none (One command) Honest old new same = omega (arith, same)
+syncs_none (Generate seed count) Honest old new same = omega (arith, same)
+syncs_none Script Honest old new same = λ h. omega (arith, same)
+syncs_none request Honest old new same = same
+
 module _ {D : Type 0} (M : Ghosts D) (request : Request) (path : List ℕ) (a b : D) (result : ℕ) (says : LeavesDisk M false (is_unsaid result) (Utters (fault_text Ends.Memory)) a b)
     (ledger : M.tells b → M.ledger b ≡ M.ledger a) (status : IsStatusAs 7 result) (ends : M.honest b → EndsWith Ends.Memory (M.now a) (M.now b) result)
     (short : M.honest a → AreShort (M.now a).windows) (timed : (m : D) → M.honest m → IsTimed M m) where
@@ -201,6 +209,7 @@ module _ {D : Type 0} (M : Ghosts D) (request : Request) (path : List ℕ) (a b 
     unfailed = λ unfailed. input_alone (M.report a) (M.report b) (spares_none (M.report a) (M.report b) result says.spares unfailed);
     attaches = λ t. inr (ap (λ (x : Ledger). x.attaches) (ledger t));
     attached = λ inside t. absurd (inside_not result status inside);
+    syncs = λ t. syncs_none request (M.honest b) (M.ledger a) (M.ledger b) (ap (λ (x : Ledger). x.syncs) (ledger t));
     taken = λ t. input_left request (M.ledger a).input (M.ledger b).input (ap (λ (x : Ledger). x.input) (ledger t));
     spared = input_spared request (M.report a) (M.report b) says.spares.input;
     input = λ five t. absurd (not_as 5 7 result (λ e. omega (arith, e)) (λ e. omega (arith, e)) status five);
@@ -252,6 +261,7 @@ module _ {D : Type 0} {M : Ghosts D} {path : List ℕ} {failed : Failed} {a b z 
       unfailed = (unfound_reading x).unfailed;
       attaches = λ t. subst (λ (asked : List Asked). AsksOrNot asked (M.ledger a).attaches (M.ledger z).attaches) (sym asks) (unfound_asks x t).attaches;
       attached = λ inside t. absurd (unfound_outside x inside);
+      syncs = λ t. syncs_none request (M.honest z) (M.ledger a) (M.ledger z) (unfound_asks x t).syncs;
       taken = λ t. input_left request (M.ledger a).input (M.ledger z).input (unfound_asks x t).input;
       spared = input_spared request (M.report a) (M.report z) (unfound_counts x).input;
       input = λ five t. absurd (not_as 5 4 status (λ e. omega (arith, e)) (λ e. omega (arith, e)) x.for five);
@@ -329,6 +339,7 @@ ran_format M n t p kind path a b result e = record {
   unfailed = λ unfailed. input_alone (M.report a) (M.report b) (e.counts.quiet unfailed);
   attaches = λ t. (e.asks t).attaches;
   attached = λ inside told. format_asked (plan kind n t p) path (M.ledger a) (M.ledger b) result e.status (e.asks told) (λ zero. e.asked zero told) inside;
+  syncs = λ t. (e.asks t).syncs;
   taken = λ t. (e.asks t).input;
   spared = e.counts.input;
   input = λ five told. absurd (format_not 5 (plan kind n t p) result e.status (λ e. omega (arith, e)) (λ e. omega (arith, e)) (λ e. omega (arith, e)) (λ e. omega (arith, e)) five);

@@ -48,9 +48,10 @@ abbrev pub plan_asks : Result Layout LayoutFault → List ℕ → List Asked
 plan_asks (Ok l) path = record { path = path; how = New l.sectors } ∷ []
 plan_asks (Err why) path = []
 
--- these attaches were asked for, or none; the input is left
+-- these attaches were asked for, or none, and no sync; the input is left
 pub record AsksAtMost (asks : List Asked) (old new : Ledger) : Type 0 where
   pub input : new.input ≡ old.input
+  pub syncs : new.syncs ≡ old.syncs
   pub attaches : (new.attaches ≡ old.attaches ++ asks) ⊎ (new.attaches ≡ old.attaches)
 
 -- these were asked for; the input is left

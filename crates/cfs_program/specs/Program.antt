@@ -1,11 +1,11 @@
 -- What the program answers and leaves, by what its words ask for.
-use Rattle.std.specs.Prelude.{◌≡◌, ◌⊎◌, ◌≤◌, ⊤, ℕ, Bool, true, false, List, [], ◌∷◌, ◌++◌, length, take, Option, Some, None, Result, Ok, Err, IsFalse, IsTrue}
+use Rattle.std.specs.Prelude.{◌≡◌, ◌⊎◌, ◌≤◌, ◌+◌, ⊤, ℕ, Bool, true, false, List, [], ◌∷◌, ◌++◌, length, take, Option, Some, None, Result, Ok, Err, IsFalse, IsTrue}
 use Rattle.volume_layout.specs.declared.layout.Layout.{Layout}
 use Rattle.volume_layout.specs.declared.fault.LayoutFault.{LayoutFault}
 use Rattle.volume_layout.specs.Layout.{plan}
 use Rattle.sector_disk.specs.declared.machine.Machine.{Ghosts}
 use Rattle.sector_disk.specs.Calls.{IsHeld}
-use Rattle.sector_disk.specs.Machine.{Asked, Moment, Report, Rose, Trusts}
+use Rattle.sector_disk.specs.Machine.{Asked, Ledger, Moment, Report, Rose, Trusts}
 use Rattle.fsd_texts.specs.declared.command.Command.TheVariants as Word
 use Rattle.fsd_texts.specs.declared.fault.Fault.TheVariants as Ends
 use Rattle.fsd_texts.specs.declared.line.Line.{Line}
@@ -28,6 +28,7 @@ use Rattle.volume_turns.specs.Causes.{FailsInput, HasSpent, HasVolume, SaysCause
 use Rattle.volume_turns.specs.Each.{SaysBadLine, SaysForced}
 use Rattle.volume_turns.specs.Status.{CountsInput, CountsNone, is_unfailed, is_quiet}
 use Rattle.volume_turns.specs.Commands.{MayLose}
+use Rattle.volume_turns.specs.Syncs.{most_in_script}
 use Rattle.cfs_program.specs.Opening.{AcceptsSound, AsFound, AsksOrNot, IsSoundDisk, WritesFound, is_from_outside, mount_asks}
 
 -- ---- statuses
@@ -66,6 +67,15 @@ asks_of (BadField cause) path = []
 asks_of (Format n t p kind) path = plan_asks (plan kind n t p) path
 asks_of Drill path = []
 asks_of request path = mount_asks path
+
+-- A run of one command does one sync at most, and so does one that makes its commands up; a script over an honest machine
+-- does at most one for each command that asks for a force, and one at its end; another request does none.
+abbrev pub SyncsAtMost : Request → (Honest : Type 0) → (old new : Ledger) → Type 0
+SyncsAtMost (Put name keep) Honest old new = new.syncs ≤ old.syncs + 1
+SyncsAtMost (One command) Honest old new = new.syncs ≤ old.syncs + 1
+SyncsAtMost (Generate seed count) Honest old new = new.syncs ≤ old.syncs + 1
+SyncsAtMost Script Honest old new = Honest → new.syncs ≤ old.syncs + most_in_script old.input
+SyncsAtMost request Honest old new = new.syncs ≡ old.syncs
 
 -- only a put and a script take input
 abbrev pub LeavesInput : Request → (old new : List ℕ) → Type 0
@@ -201,6 +211,7 @@ pub record Ran {D : Type 0} (M : Ghosts D) (request : Request) (path : List ℕ)
   pub unfailed : IsTrue (is_unfailed result) → CountsInput (M.report a) (M.report b)
   pub attaches : M.tells b → AsksOrNot (asks_of request path) (M.ledger a).attaches (M.ledger b).attaches
   pub attached : IsFalse (is_from_outside result) → M.tells b → (M.ledger b).attaches ≡ (M.ledger a).attaches ++ asks_of request path
+  pub syncs : M.tells b → SyncsAtMost request (M.honest b) (M.ledger a) (M.ledger b)
   pub taken : M.tells b → LeavesInput request (M.ledger a).input (M.ledger b).input
   pub spared : SparesInput request (M.report a) (M.report b)
   pub input : result ≡ 5 → M.tells b → FailsInput (M.ledger a).input (M.report a) (M.report b)

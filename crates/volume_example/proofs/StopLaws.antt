@@ -1,12 +1,14 @@
 -- What a stop leaves of a put and the force behind it.
-use Rattle.std.proofs.Common.{◌≡◌, ◌≤◌, ℕ, suc, List, [], ◌∷◌, ◌++◌, length, length-append, Option, None, sym, ◌∙◌, ap, subst, arith}
+use Rattle.std.proofs.Common.{◌≡◌, ◌⊎◌, inl, inr, ◌≤◌, ℕ, suc, List, [], ◌∷◌, ◌++◌, length, length-append, Option, None, refl, sym, ◌∙◌, ap, subst, arith}
 use Rattle.fsd_bytes.specs.declared.key.Key.{Key}
 use Rattle.sector_disk.specs.declared.machine.Machine.{Ghosts}
 use Rattle.sector_disk.specs.Calls.{OnlyReads, WritesDisk}
 use Rattle.sector_disk.specs.Image.{AreShort}
-use Rattle.sector_disk.specs.Machine.{Moment, Wears}
+use Rattle.sector_disk.specs.Machine.{Ledger, Moment, OnlyWrites, Wears, synced_once}
 use Rattle.fsd_log.specs.Scan.{Placed}
-use Rattle.sector_disk.proofs.CallLaws.{reads_as_writes, writes_more, writes_then}
+use Rattle.sector_disk.proofs.CallLaws.{faults_then, reads_as_writes, uses_then, writes_more, writes_then}
+use Rattle.sector_disk.proofs.Holding.{trusts_on}
+use Rattle.sector_disk.proofs.Moments.{leaves_more, then_on}
 use Rattle.fsd_files.specs.Answers.{put_outcome}
 use Rattle.fsd_files.specs.Files.{Change}
 use Rattle.fsd_files.specs.Disk.{Sectors}
@@ -16,6 +18,7 @@ use Rattle.fsd_sound.proofs.MoreLaws.{sound_fewer, sound_more, wear_sound}
 use Rattle.volume_contract.specs.Ends.{MakesVersion}
 use Rattle.volume_contract.specs.State.{Known, Leaves, Stands, State, forced_of, volume_of}
 use Rattle.volume_example.specs.Stops.{LeavesOneMore, MayLeave}
+use Rattle.volume_example.specs.Syncs.{SyncsDisk, WritesAndSyncs, WritesForGood}
 use Rattle.volume_example.proofs.MadeLaws.{is_put}
 
 module _ {S : Type 0} (state : S → State) (has : S → Mounted → List Placed → Type 0) (v : S) (k : Known) (old : Moment) (stands : Stands state has v k old) (change : Change) where
@@ -50,6 +53,34 @@ module _ {S : Type 0} (state : S → State) (has : S → Mounted → List Placed
             (subst (λ l. IsSound l after.windows after.changes (forced_of k) left.image) layout sound));
       }
 
+-- ---- a sync behind writes
+
+once_more : (a c d : Ledger) → OnlyWrites a c → (d ≡ c) ⊎ (d ≡ synced_once c) → WritesAndSyncs a d
+once_more a c d w (inl same) = record {
+  input = ap (λ (l : Ledger). l.input) same ∙ w.input;
+  attaches = ap (λ (l : Ledger). l.attaches) same ∙ w.attaches;
+  syncs = let is = ap (λ (l : Ledger). l.syncs) same in let none = w.syncs in omega (arith, is, none);
+}
+once_more a c d w (inr one) = record {
+  input = ap (λ (l : Ledger). l.input) one ∙ w.input;
+  attaches = ap (λ (l : Ledger). l.attaches) one ∙ w.attaches;
+  syncs = let is = ap (λ (l : Ledger). l.syncs) one in let none = w.syncs in omega (arith, is, none);
+}
+
+-- where there was none
+pub without_sync : {D : Type 0} {M : Ghosts D} {fault : Option ℕ} {R : Moment → Moment → Type 0} {a b : D} → WritesDisk M fault R a b → WritesForGood M fault R a b
+without_sync {M = M} {a = a} {b = b} w = record {
+  uses = w.uses;
+  faults = w.faults;
+  trust = w.trust;
+  ledger = λ t. once_more (M.ledger a) (M.ledger b) (M.ledger b) (w.ledger t) (inl refl);
+  quiet = w.quiet;
+  windows = w.windows;
+  exit = w.exit;
+  since = w.since;
+  any_moment = w.any_moment;
+}
+
 -- ---- what a put and a call behind it leave
 
 module _ {D S : Type 0} (M : Ghosts D) (state : S → State) (has : S → Mounted → List Placed → Type 0) (v : S) (may : Sectors) (change : Change) (a b c : D) (put : WritesDisk M None (Leaves state has v may) a b) where
@@ -65,8 +96,20 @@ module _ {D S : Type 0} (M : Ghosts D) (state : S → State) (has : S → Mounte
           wear_leaves state has v k (M.now a) stands change (M.now b) left (short back) (put_part (M.now b) (put.exit back) k stands) wears
 
   -- a sync behind both
-  pub then_syncs : (d : D) (fault : Option ℕ) → WritesDisk M None (LeavesOneMore state has v change) a c → (M.honest c → AreShort (M.now c).windows) → OnlyReads M fault c d → WritesDisk M fault (LeavesOneMore state has v change) a d
-  then_syncs d fault all short read = writes_then {P = LeavesOneMore state has v change} {Q = Wears} {R = LeavesOneMore state has v change} all (reads_as_writes {R = Wears} read (λ h left wears. wears)) (λ h left so. so) sync_part
+  pub then_syncs : (d : D) (fault : Option ℕ) → WritesDisk M None (LeavesOneMore state has v change) a c → (M.honest c → AreShort (M.now c).windows) → SyncsDisk M fault c d → WritesForGood M fault (LeavesOneMore state has v change) a d
+  then_syncs d fault all short read =
+      let back = read.trust.honest in record {
+        uses = uses_then (M.report a) (M.report c) (M.report d) all.uses read.uses;
+        faults = faults_then fault (M.report a) (M.report c) (M.report d) all.faults read.faults;
+        trust = trusts_on all.trust read.trust;
+        ledger = λ t. once_more (M.ledger a) (M.ledger c) (M.ledger d) (all.ledger (read.trust.tells t)) (read.ledger t);
+        quiet = λ h. (read.worn h).said ∙ all.quiet (back h);
+        windows = λ h. (read.worn h).windows ∙ all.windows (back h);
+        exit = λ h. sync_part h (M.now d) (read.worn h);
+        since = λ h t left le was. let later = (all.any_moment (back h)).later in read.since h t left (omega (arith, le, later)) (all.since (back h) t left le was);
+        any_moment = λ h. then_on M.moment M.left_since a c d (LeavesOneMore state has v change (M.now a)) (all.any_moment (back h))
+            (leaves_more M.moment M.left_since c d (Wears (M.now c)) (LeavesOneMore state has v change (M.now a)) (sync_part h) (read.any_moment h));
+      }
     where
       sync_part : M.honest d → (left : Moment) → Wears (M.now c) left → LeavesOneMore state has v change (M.now a) left
       sync_part h left wears k stands =

@@ -1,3 +1,4 @@
 pub mod Stops
+pub mod Syncs
 pub mod Filling
 pub mod Forcing

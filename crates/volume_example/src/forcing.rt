@@ -1,11 +1,12 @@
 //! A version that is there for good.
 ghost use Rattle.std.specs.Prelude.{◌≡◌, ◌≤◌, ℕ, None, Some, OnOk};
 ghost use Rattle.fsd_files.specs.Files.{Change};
-ghost use Rattle.sector_disk.specs.Calls.{OnlyReads, WritesDisk, device_in, failed_at as sync_failed_at};
+ghost use Rattle.sector_disk.specs.Calls.{device_in, failed_at as sync_failed_at};
 ghost use Rattle.sector_disk.specs.Machine.{IsSynced};
 ghost use Rattle.volume_contract.specs.State.{Known, Stands};
 ghost use Rattle.volume_example.specs.Forcing.{EndsForGood, IsRefusedDown};
 ghost use Rattle.volume_example.specs.Stops.{LeavesOneMore, stopped_at};
+ghost use Rattle.volume_example.specs.Syncs.{SyncsDisk, WritesForGood};
 
 use crate::fault::ExampleFault;
 use fsd_bytes::{FileName, Key};
@@ -21,7 +22,7 @@ pub fn put_and_force<M: Machine, V: Files<M>>(
 ) -> Result<Key, ExampleFault>
     requires { (V.state v.old).layout.sectors ≤ (M.report m.old).sectors }
     ensures layout { (V.state v.new).layout ≡ (V.state v.old).layout }
-    ensures disk { WritesDisk M.Machine (device_in stopped_at result) (LeavesOneMore V.state V.holds v.old (Change.Put name.now None bytes.now)) m.old m.new }
+    ensures disk { WritesForGood M.Machine (device_in stopped_at result) (LeavesOneMore V.state V.holds v.old (Change.Put name.now None bytes.now)) m.old m.new }
     ensures down { (place : ℕ) → (V.state v.old).down ≡ Some place → IsRefusedDown place result }
     ensures done { M.honest m.new → (k : Known) → Stands V.state V.holds v.old k (M.now m.old) → EndsForGood V.state V.holds name.now bytes.now k v.new (M.now m.new) result }
 {
@@ -42,7 +43,7 @@ pub fn put_and_force<M: Machine, V: Files<M>>(
 
 // Brings all that was written to the disk.
 fn sync<M: Machine>(m: &mut M) -> Result<(), Failed>
-    ensures reads { OnlyReads M.Machine (device_in sync_failed_at result) m.old m.new }
+    ensures syncs { SyncsDisk M.Machine (device_in sync_failed_at result) m.old m.new }
     ensures synced { OnOk result (M.honest m.new → IsSynced (M.now m.new)) }
 {
     m.sync()

@@ -5,8 +5,7 @@ use Rattle.volume_layout.specs.declared.layout.Layout.{Layout}
 use Rattle.sector_disk.specs.declared.machine.Machine.{Ghosts}
 use Rattle.sector_disk.specs.Calls.{HealsDisk, IsHeld, IsTimed, LeavesDisk, Since}
 use Rattle.sector_disk.specs.Image.{AreShort}
-use Rattle.sector_disk.specs.Machine.{Ledger, LeavesOnly, OnlyWrites, Trusts, Utters}
-use Rattle.sector_disk.proofs.CallLaws.{only_writes_then}
+use Rattle.sector_disk.specs.Machine.{LeavesOnly, Trusts, Utters}
 use Rattle.sector_disk.proofs.Holding.{trusts_on}
 use Rattle.fsd_files.specs.Desk.{Session}
 use Rattle.fsd_log.specs.Scan.{Placed}
@@ -36,6 +35,8 @@ use Rattle.volume_turns.proofs.AnsweringLaws.{fault_alone, run_mounted, run_refu
 use Rattle.volume_turns.proofs.CauseLaws.{MaySpend, input_since, tells_mounted, tells_refused}
 use Rattle.volume_turns.proofs.LastLaws.{mount_fault}
 use Rattle.volume_turns.proofs.StatusLaws.{counts_after, fails_behind, mount_counts, mount_of_volume, script_counts, script_counts_after}
+use Rattle.volume_turns.specs.Syncs.{SyncsUpTo}
+use Rattle.volume_turns.proofs.SyncLaws.{syncs_behind, syncs_on, writes_up_to}
 use Rattle.volume_turns.proofs.WholeLaws.{joined_run, refused_run}
 
 -- ---- over the volume
@@ -52,8 +53,8 @@ module _ {S D : Type 0} {state : S → State} {M : Ghosts D} {sectors : ℕ} {v 
   pub over_trust : Trusts (M.tells a) (M.tells b) (M.honest a) (M.honest b)
   over_trust = trusts_on x.disk.trust x.trust
 
-  pub over_writes : M.tells b → OnlyWrites (M.ledger m) (M.ledger b) → OnlyWrites (M.ledger a) (M.ledger b)
-  over_writes t writes = only_writes_then (M.ledger a) (M.ledger m) (M.ledger b) (x.disk.ledger (x.trust.tells t)) writes
+  pub over_syncs : {most : ℕ} → M.tells b → SyncsUpTo most (M.ledger m) (M.ledger b) → SyncsUpTo most (M.ledger a) (M.ledger b)
+  over_syncs {most} t writes = syncs_behind most (M.ledger a) (M.ledger m) (M.ledger b) (x.disk.ledger (x.trust.tells t)) writes
 
   pub over_attaches : M.tells b → (M.ledger b).attaches ≡ (M.ledger m).attaches → (M.ledger b).attaches ≡ (M.ledger a).attaches
   over_attaches t same = same ∙ (x.disk.ledger (x.trust.tells t)).attaches
@@ -118,8 +119,8 @@ module _ {D : Type 0} {M : Ghosts D} {sectors : ℕ} {fault : MountFault} {why :
   pub refused_trust : Trusts (M.tells a) (M.tells b) (M.honest a) (M.honest b)
   refused_trust = trusts_on x.disk.trust x.says.trust
 
-  pub refused_writes : M.tells b → M.ledger b ≡ M.ledger m → OnlyWrites (M.ledger a) (M.ledger b)
-  refused_writes t same = subst (λ (l : Ledger). OnlyWrites (M.ledger a) l) (sym same) (x.disk.ledger (x.says.trust.tells t))
+  pub refused_syncs : {most : ℕ} → M.tells b → M.ledger b ≡ M.ledger m → SyncsUpTo most (M.ledger a) (M.ledger b)
+  refused_syncs {most} t same = syncs_on most (M.ledger a) (M.ledger m) (M.ledger b) same (writes_up_to most (M.ledger a) (M.ledger m) (x.disk.ledger (x.says.trust.tells t)))
 
   pub refused_of : IsOfVolume why
   refused_of = mount_of_volume fault why x.is

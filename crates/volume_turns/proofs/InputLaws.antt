@@ -6,7 +6,7 @@ use Rattle.std.specs.Prelude.{if◌then◌else◌, nat_lt, Err}
 use Rattle.std.proofs.lemmas.Bool.{lt-ltb, ltb-true}
 use Rattle.std.proofs.lemmas.List.{append-nil}
 use Rattle.sector_disk.specs.declared.machine.Machine.{Ghosts}
-use Rattle.sector_disk.specs.Calls.{IsTimed, LeavesDisk, OnlyReads, StopsOnly}
+use Rattle.sector_disk.specs.Calls.{IsTimed, LeavesDisk, StopsOnly}
 use Rattle.sector_disk.specs.Image.{AreShort}
 use Rattle.sector_disk.specs.Machine.{IsSynced, LeavesOnly, Moment, Report, Utters, Wears}
 use Rattle.sector_disk.proofs.Lags.{held_synced}
@@ -38,6 +38,7 @@ use Rattle.volume_turns.specs.Once.{IsDone, close_fault}
 use Rattle.volume_turns.specs.Steps.{IsOfCall, StaysSoundFor, device_told}
 use Rattle.volume_turns.specs.Turns.{InRun, OnDisk, FaultTold}
 use Rattle.volume_turns.specs.Whole.{Always, Finishes, RunsOut}
+use Rattle.volume_turns.proofs.SayLaws.{KeepsSynced}
 use Rattle.volume_turns.proofs.GroupEndLaws.{finishes_last}
 use Rattle.volume_turns.proofs.GroupLaws.{goes_wider}
 use Rattle.volume_turns.proofs.HaltLaws.{broken_ends, broken_moments, said_halts}
@@ -108,7 +109,7 @@ close_of_call why = tt
 
 module _ {S D : Type 0} (state : S → State) (has : S → Mounted → List Placed → Type 0) (M : Ghosts D) (name : List ℕ) (keep : Option ℕ) (input rest : List ℕ) (many : max_input < length input) (v : S) (a m b : D) (k : Known)
     (wears : (old new : Moment) → AreShort old.windows → Ages old new → Stands state has v k old → Stands state has v k new) (stands : Stands state has v k (M.now a)) (on : OnDisk M k (forced_of k) a) (short : (x : D) → M.honest x → AreShort (M.now x).windows) (timed : (x : D) → M.honest x → IsTimed M x)
-    (fault : Option ℕ) (reads : OnlyReads M fault a m) (back : M.honest m) (honest : M.honest b) (status : ℕ) where
+    (reads : KeepsSynced M a m) (back : M.honest m) (honest : M.honest b) (status : ℕ) where
   abbrev none : Errand
   none = nothing_but Ends.InputTooLong
 

@@ -43,6 +43,7 @@ pub mod SeatLaws
 pub mod SpeaksLaws
 pub mod StatusLaws
 pub mod StepLaws
+pub mod SyncLaws
 pub mod TakingLaws
 pub mod ToldLaws
 pub mod TurnLaws

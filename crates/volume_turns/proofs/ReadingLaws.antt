@@ -1,5 +1,5 @@
 -- Commands that are read, and what is said of them, one behind the other.
-use Rattle.std.proofs.Common.{◌≡◌, ◌∙◌, Bool, true, false, Ok, Err, refl, arith}
+use Rattle.std.proofs.Common.{◌≡◌, ℕ, ◌∙◌, Bool, true, false, Ok, Err, refl, arith}
 use Rattle.std.specs.Prelude.{Result}
 use Rattle.sector_disk.specs.declared.machine.Machine.{Ghosts}
 use Rattle.sector_disk.specs.Calls.{LeavesDisk}
@@ -40,8 +40,8 @@ module _ {D : Type 0} {M : Ghosts D} where
   }
 
   -- what was given is done, with no input taken
-  pub reading_of : {T : Type 0} {a b : D} {result : Result T Halt} → Speaks M a b result → SpeaksReading M a b result
-  reading_of {T} {a} {b} {result} s = record {
+  pub reading_of : {T : Type 0} {most : ℕ} {a b : D} {result : Result T Halt} → Speaks M most a b result → SpeaksReading M a b result
+  reading_of {T} {most} {a} {b} {result} s = record {
     heard = heard_of (M.report a) (M.report b) result s.told;
     fault = s.fault;
     attaches = λ t. (s.ledger t).attaches;

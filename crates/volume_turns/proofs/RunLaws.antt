@@ -8,7 +8,7 @@ use Rattle.std.proofs.lemmas.List.{append-nil}
 use Rattle.sector_disk.specs.declared.machine.Machine.{Ghosts}
 use Rattle.sector_disk.specs.declared.sector.WeakRun.{WeakRun}
 use Rattle.sector_disk.specs.Image.{IsWorn, open_damage, AreShort, Windows}
-use Rattle.sector_disk.specs.Machine.{Ledger, LeavesOnly, Moment, OnlyWrites, Report, UsesDisk, Wears}
+use Rattle.sector_disk.specs.Machine.{LeavesOnly, Moment, Report, UsesDisk, Wears}
 use Rattle.sector_disk.proofs.Wear.{worn_whole}
 use Rattle.sector_disk.proofs.Lags.{held_by, shows_of, stops_by}
 use Rattle.sector_disk.proofs.Moments.{started, then_on, leaves_more}
@@ -351,9 +351,6 @@ since_on M a p b back first later second h t left le was = let reached = later (
 
 pub later_on : {D : Type 0} (M : Ghosts D) (a p b : D) → (M.honest b → M.honest p) → (M.honest p → M.moment a ≤ M.moment p) → (M.honest b → M.moment p ≤ M.moment b) → M.honest b → M.moment a ≤ M.moment b
 later_on M a p b back first second h = let x = first (back h) in let y = second h in omega (arith, x, y)
-
-pub writes_on : (a p b : Ledger) → b ≡ p → OnlyWrites a p → OnlyWrites a b
-writes_on a p b same writes = subst (λ (l : Ledger). OnlyWrites a l) (sym same) writes
 
 pub follows_then : {D : Type 0} (M : Ghosts D) (a b c : D) → KeepsCalls M a b → KeepsCalls M b c → KeepsCalls M a c
 follows_then M a b c x y = record {

@@ -4,7 +4,7 @@ use Rattle.std.specs.Prelude.{Ok, Err}
 use Rattle.std.proofs.lemmas.List.{append-nil}
 use Rattle.sector_disk.specs.declared.machine.Failed.{Failed}
 use Rattle.sector_disk.specs.declared.machine.Machine.{Ghosts}
-use Rattle.sector_disk.specs.Calls.{DiskFaults, IsTimed, LeavesDisk, OnlyReads, Since, SparesDisk}
+use Rattle.sector_disk.specs.Calls.{IsTimed, LeavesDisk, Since, SparesDisk}
 use Rattle.sector_disk.specs.Image.{IsWorn, Windows, open_damage}
 use Rattle.sector_disk.specs.Machine.{DiskCause, Elapses, InputCause, IsHistory, IsSynced, LeavesOnly, Moment, OutputCause, Report, Says, Trusts, UsesDisk, Utters, Wears}
 use Rattle.sector_disk.proofs.Holding.{utters_none}
@@ -40,7 +40,7 @@ module _ (a b : Report) where
   pub told_synced : {T : Type 0} (x : T) → b.sectors ≡ a.sectors → DiskCause a b 0 (Ok x) → FaultTold {T = Unit {0}} a b (Ok tt)
   told_synced x same c = record { sectors = same; disk = (c.disk.stays, c.untold); input = c.input; later = let output = c.output in omega (arith, output); output = c.output }
 
-  pub told_unsynced : {T U : Type 0} (failed : Failed) → b.sectors ≡ a.sectors → DiskCause {T = T} a b 0 (Err failed) → FaultTold {T = U} a b (Err (Stopped (Ends.Device failed.place)))
+  pub told_unsynced : {T U : Type 0} (failed : Failed) → b.sectors ≡ a.sectors → DiskCause {T = T} a b failed.place (Err failed) → FaultTold {T = U} a b (Err (Stopped (Ends.Device failed.place)))
   told_unsynced failed same c = record {
     sectors = same;
     disk = record { rose = c.disk.failed; told = c.names ∙ sym c.told };
@@ -80,20 +80,25 @@ pub timed_by : {D : Type 0} (M : Ghosts D) → ((m : D) → M.honest m → (M.no
 timed_by M dated history counts_now only_now m h = record { dated = dated m h; history = history m h; here = counts_now m (M.moment m) h (omega arith); only = λ c left. only_now m c h left }
 
 -- nothing is said by a sync
-pub utters_none : (text : List ℕ) (old left : Moment) → Wears old left → UttersBehind true text old left
-utters_none text old left w = record {
+pub utters_worn : (text : List ℕ) (old left : Moment) → Wears old left → UttersBehind true text old left
+utters_worn text old left w = record {
   utters = record { image = w.image; windows = w.windows; heard = 0; said = w.said ∙ sym (append-nil old.said) };
   synced = λ is. inl w.said;
 }
 
--- a sync is a call that only reads
-pub synced_reads : {D : Type 0} (M : Ghosts D) (a b : D) (fault : Option ℕ) → UsesDisk (M.report a) (M.report b) → DiskFaults fault (M.report a) (M.report b) → Trusts (M.tells a) (M.tells b) (M.honest a) (M.honest b) → (M.tells b → M.ledger b ≡ M.ledger a) → (M.honest b → Wears (M.now a) (M.now b))
-    → (M.honest b → Elapses (M.moment a) (M.moment b) (M.left_since a) (M.left_since b) (Wears (M.now a))) → (M.honest a → IsTimed M a) → OnlyReads M fault a b
-synced_reads M a b fault uses faults trust ledger worn time timed = record {
+-- A sync keeps what a call that only reads does, but that it is counted.
+pub record KeepsSynced {D : Type 0} (M : Ghosts D) (a b : D) : Type 0 where
+  pub uses : UsesDisk (M.report a) (M.report b)
+  pub trust : Trusts (M.tells a) (M.tells b) (M.honest a) (M.honest b)
+  pub worn : M.honest b → Wears (M.now a) (M.now b)
+  pub since : M.honest b → Since M a b
+  pub any_moment : M.honest b → LeavesOnly M.moment M.left_since a b (Wears (M.now a))
+
+pub synced_keeps : {D : Type 0} (M : Ghosts D) (a b : D) → UsesDisk (M.report a) (M.report b) → Trusts (M.tells a) (M.tells b) (M.honest a) (M.honest b) → (M.honest b → Wears (M.now a) (M.now b))
+    → (M.honest b → Elapses (M.moment a) (M.moment b) (M.left_since a) (M.left_since b) (Wears (M.now a))) → (M.honest a → IsTimed M a) → KeepsSynced M a b
+synced_keeps M a b uses trust worn time timed = record {
   uses = uses;
-  faults = faults;
   trust = trust;
-  ledger = ledger;
   worn = worn;
   since = λ h. (time h).keeps;
   any_moment = λ h. goes_on M.moment M.left_since a a b (Wears (M.now a)) (Wears (M.now a)) (started M.moment M.left_since a (M.now a) (Wears (M.now a)) (timed (trust.honest h)).only (wears_none (M.now a))) (time h) (λ c now. now);
@@ -111,7 +116,7 @@ module _ (text : List ℕ) (old mid left : Moment) (w : Wears old mid) where
 
 pub synced_moments : {D : Type 0} (M : Ghosts D) (a b : D) → IsTimed M a → Elapses (M.moment a) (M.moment b) (M.left_since a) (M.left_since b) (Wears (M.now a)) → (text : List ℕ) → LeavesOnly M.moment M.left_since a b (UttersBehind true text (M.now a))
 synced_moments M a b at_a time text =
-    leaves_more M.moment M.left_since a b (Wears (M.now a)) (UttersBehind true text (M.now a)) (utters_none text (M.now a))
+    leaves_more M.moment M.left_since a b (Wears (M.now a)) (UttersBehind true text (M.now a)) (utters_worn text (M.now a))
     (goes_on M.moment M.left_since a a b (Wears (M.now a)) (Wears (M.now a)) (started M.moment M.left_since a (M.now a) (Wears (M.now a)) at_a.only (wears_none (M.now a))) time (λ c now. now))
 
 module _ {D : Type 0} (M : Ghosts D) (a p b : D) (text : List ℕ) (at_a : IsTimed M a) (at_p : IsTimed M p) (at_b : IsTimed M b) (time : Elapses (M.moment a) (M.moment p) (M.left_since a) (M.left_since p) (Wears (M.now a))) (worn : Wears (M.now a) (M.now p))

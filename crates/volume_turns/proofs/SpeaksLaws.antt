@@ -1,11 +1,10 @@
 -- Calls of a volume and what is said of them, one behind the other.
-use Rattle.std.proofs.Common.{◌≡◌, ◌≤◌, ℕ, true, Option, None, Ok, Err, refl, ap, subst, arith}
+use Rattle.std.proofs.Common.{◌≡◌, ◌≤◌, ℕ, Bool, true, Option, None, Ok, Err, refl, ap, subst, arith}
 use Rattle.std.specs.Prelude.{Result}
 use Rattle.volume_layout.specs.declared.layout.Layout.{Layout}
 use Rattle.sector_disk.specs.declared.machine.Machine.{Ghosts}
 use Rattle.sector_disk.specs.Calls.{DiskFaults, WritesDisk}
-use Rattle.sector_disk.specs.Machine.{Ledger, Moment}
-use Rattle.sector_disk.proofs.CallLaws.{only_writes_then}
+use Rattle.sector_disk.specs.Machine.{Moment}
 use Rattle.sector_disk.proofs.Holding.{trusts_on}
 use Rattle.fsd_texts.specs.declared.fault.Fault.{Fault}
 use Rattle.fsd_texts.specs.declared.fault.Fault.TheVariants as Ends
@@ -17,89 +16,94 @@ use Rattle.volume_turns.specs.Once.{SaysForcedOver}
 use Rattle.volume_turns.specs.Turns.{KeepsCalls, SaysText, Speaks}
 use Rattle.volume_turns.proofs.CountLaws.{told_all, told_end, told_more, told_worn_out}
 use Rattle.volume_turns.proofs.RunLaws.{later_on, since_on, told_done, told_fault}
+use Rattle.volume_turns.proofs.SyncLaws.{none_up_to, once_up_to, syncs_behind, syncs_more, syncs_then, writes_up_to}
 
 module _ {D T : Type 0} {M : Ghosts D} where
   -- a text is said, and nothing else is done
-  pub speaks_text : {a b : D} {result : Result T Halt} → SaysText M a b result → (M.honest b → M.moment a ≤ M.moment b) → Speaks M a b result
-  speaks_text says later = record {
+  pub speaks_text : {syncs : Bool} {a b : D} {result : Result T Halt} → SaysText M syncs a b result → (M.honest b → M.moment a ≤ M.moment b) → Speaks M 1 a b result
+  speaks_text {syncs} {a} {b} says later = record {
     told = says.told;
     fault = says.fault;
-    ledger = λ t. let same = says.ledger t in record { input = ap (λ (x : Ledger). x.input) same; attaches = ap (λ (x : Ledger). x.attaches) same };
+    ledger = λ t. once_up_to syncs (M.ledger a) (M.ledger b) (says.ledger t);
     trust = says.trust;
     since = says.since;
     later = later;
   }
 
   -- behind a call that was done
-  pub speaks_behind : {R : Moment → Moment → Type 0} {a m b : D} {result : Result T Halt} → WritesDisk M None R a m → Speaks M m b result → Speaks M a b result
-  speaks_behind {R} {a} {m} {b} {result} disk s = record {
+  pub speaks_behind : {R : Moment → Moment → Type 0} {most : ℕ} {a m b : D} {result : Result T Halt} → WritesDisk M None R a m → Speaks M most m b result → Speaks M most a b result
+  speaks_behind {R} {most} {a} {m} {b} {result} disk s = record {
     told = told_more (M.report a) (M.report m) (M.report b) tt result (told_done (M.report a) (M.report m) disk.uses disk.faults) s.told;
     fault = s.fault;
-    ledger = λ t. only_writes_then (M.ledger a) (M.ledger m) (M.ledger b) (disk.ledger (s.trust.tells t)) (s.ledger t);
+    ledger = λ t. syncs_behind most (M.ledger a) (M.ledger m) (M.ledger b) (disk.ledger (s.trust.tells t)) (s.ledger t);
     trust = trusts_on disk.trust s.trust;
     since = since_on M a m b s.trust.honest disk.since (λ h. (disk.any_moment h).later) s.since;
     later = later_on M a m b s.trust.honest (λ h. (disk.any_moment h).later) s.later;
   }
 
   -- the call has failed
-  pub speaks_failed : {R : Moment → Moment → Type 0} {place : Option ℕ} {a b : D} (why : Fault) → place ≡ device_told why → IsOfCall why → WritesDisk M place R a b → Speaks {T = T} M a b (Err (Stopped why))
-  speaks_failed {R} {place} {a} {b} why is of disk = record {
+  pub speaks_failed : {R : Moment → Moment → Type 0} {place : Option ℕ} {most : ℕ} {a b : D} (why : Fault) → place ≡ device_told why → IsOfCall why → WritesDisk M place R a b → Speaks {T = T} M most a b (Err (Stopped why))
+  speaks_failed {R} {place} {most} {a} {b} why is of disk = record {
     told = told_end (M.report a) (M.report b) (Stopped why) (told_fault (M.report a) (M.report b) why disk.uses (subst (λ (o : Option ℕ). DiskFaults o (M.report a) (M.report b)) is disk.faults));
     fault = of;
-    ledger = disk.ledger;
+    ledger = λ t. writes_up_to most (M.ledger a) (M.ledger b) (disk.ledger t);
     trust = disk.trust;
     since = disk.since;
     later = λ h. (disk.any_moment h).later;
   }
 
   -- memory was refused before any call
-  pub speaks_none : (a : D) → Speaks {T = T} M a a (Err (Stopped Ends.Memory))
-  speaks_none a = record {
+  pub speaks_none : {most : ℕ} (a : D) → Speaks {T = T} M most a a (Err (Stopped Ends.Memory))
+  speaks_none {most} a = record {
     told = record { sectors = refl; disk = (refl, refl); input = refl; later = omega arith; output = refl };
     fault = tt;
-    ledger = λ t. record { input = refl; attaches = refl };
+    ledger = λ t. none_up_to most (M.ledger a);
     trust = record { tells = λ t. t; honest = λ h. h };
     since = λ h t left le was. was;
     later = λ h. omega arith;
   }
 
 -- nothing is done
-pub speaks_still : {D T : Type 0} {M : Ghosts D} (a : D) (t : T) → Speaks M a a (Ok t)
-speaks_still a t = record {
+pub speaks_still : {D T : Type 0} {M : Ghosts D} {most : ℕ} (a : D) (t : T) → Speaks M most a a (Ok t)
+speaks_still {M = M} {most = most} a t = record {
   told = record { sectors = refl; disk = (refl, refl); input = refl; later = omega arith; output = refl };
   fault = tt;
-  ledger = λ t. record { input = refl; attaches = refl };
+  ledger = λ t. none_up_to most (M.ledger a);
   trust = record { tells = λ t. t; honest = λ h. h };
   since = λ h t left le was. was;
   later = λ h. omega arith;
 }
 
--- one behind the other
+-- one behind the other, of which the first has done no sync
 module _ {D T U : Type 0} {M : Ghosts D} {a m b : D} where
-  pub speaks_then : {u : U} {result : Result T Halt} → Speaks M a m (Ok u) → Speaks M m b result → Speaks M a b result
-  speaks_then {u} {result} first s = record {
+  pub speaks_then : {u : U} {most : ℕ} {result : Result T Halt} → Speaks M 0 a m (Ok u) → Speaks M most m b result → Speaks M most a b result
+  speaks_then {u} {most} {result} first s = record {
     told = told_more (M.report a) (M.report m) (M.report b) u result first.told s.told;
     fault = s.fault;
-    ledger = λ t. only_writes_then (M.ledger a) (M.ledger m) (M.ledger b) (first.ledger (s.trust.tells t)) (s.ledger t);
+    ledger = λ t. syncs_then most (M.ledger a) (M.ledger m) (M.ledger b) (first.ledger (s.trust.tells t)) (s.ledger t);
     trust = trusts_on first.trust s.trust;
     since = since_on M a m b s.trust.honest first.since first.later s.since;
     later = later_on M a m b s.trust.honest first.later s.later;
   }
 
 -- commands in front of which the mount was worn out
-pub speaks_worn : {D T : Type 0} {M : Ghosts D} {a b : D} (end : Halt) → is_worn_end end ≡ true → Speaks {T = T} M a b (Err end) → Speaks {T = Unit {0}} M a b (Ok tt)
+pub speaks_worn : {D T : Type 0} {M : Ghosts D} {most : ℕ} {a b : D} (end : Halt) → is_worn_end end ≡ true → Speaks {T = T} M most a b (Err end) → Speaks {T = Unit {0}} M most a b (Ok tt)
 speaks_worn {M = M} {a = a} {b = b} end worn s = record { told = told_worn_out (M.report a) (M.report b) end worn s.told; fault = tt; ledger = s.ledger; trust = s.trust; since = s.since; later = s.later }
 
+-- where no sync was done there are no more than so many
+pub speaks_more : {D T : Type 0} {M : Ghosts D} {a b : D} {result : Result T Halt} (most : ℕ) → Speaks M 0 a b result → Speaks M most a b result
+speaks_more {M = M} {a = a} {b = b} most s = record { told = s.told; fault = s.fault; ledger = λ t. syncs_more 0 most (M.ledger a) (M.ledger b) (omega arith) (s.ledger t); trust = s.trust; since = s.since; later = s.later }
+
 -- what the rest of the machine's calls keep
-pub speaks_keeps : {D T : Type 0} {M : Ghosts D} {a b : D} {result : Result T Halt} → Speaks M a b result → KeepsCalls M a b
+pub speaks_keeps : {D T : Type 0} {M : Ghosts D} {most : ℕ} {a b : D} {result : Result T Halt} → Speaks M most a b result → KeepsCalls M a b
 speaks_keeps s = record { honest = s.trust.honest; since = s.since; later = s.later }
 
 -- what is handed on
 module _ {D T U : Type 0} {M : Ghosts D} {a b : D} where
-  pub speaks_done : (t : T) (u : U) → Speaks M a b (Ok t) → Speaks M a b (Ok u)
+  pub speaks_done : {most : ℕ} (t : T) (u : U) → Speaks M most a b (Ok t) → Speaks M most a b (Ok u)
   speaks_done t u s = record { told = told_all (M.report a) (M.report b) t u s.told; fault = tt; ledger = s.ledger; trust = s.trust; since = s.since; later = s.later }
 
-  pub speaks_ended : (end : Halt) → Speaks {T = T} M a b (Err end) → Speaks {T = U} M a b (Err end)
+  pub speaks_ended : {most : ℕ} (end : Halt) → Speaks {T = T} M most a b (Err end) → Speaks {T = U} M most a b (Err end)
   speaks_ended end s = record { told = told_end (M.report a) (M.report b) end s.told; fault = s.fault; ledger = s.ledger; trust = s.trust; since = s.since; later = s.later }
 
 -- ---- all is forced, and that is said

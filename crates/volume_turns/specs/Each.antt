@@ -1,8 +1,9 @@
 -- What a script has said, whatever the image: in order, for each of its commands a reply that this may have.
-use Rattle.std.specs.Prelude.{◌≡◌, ◌≤◌, ⊤, ℕ, List, [], ◌∷◌, ◌++◌, Result, OnOk}
+use Rattle.std.specs.Prelude.{◌≡◌, ◌⊎◌, ◌≤◌, ⊤, ℕ, ◌+◌, Bool, List, [], ◌∷◌, ◌++◌, Result, OnOk, IsTrue, sum_by}
 use Rattle.std.specs.List.{flat_map}
 use Rattle.sector_disk.specs.declared.machine.Machine.{Ghosts}
-use Rattle.sector_disk.specs.Machine.{Moment}
+use Rattle.sector_disk.specs.Machine.{Ledger, Moment}
+use Rattle.fsd_files.specs.Disk.{Image}
 use Rattle.fsd_files.specs.declared.reply.Reply.{Reply}
 use Rattle.fsd_texts.specs.declared.bad_line.BadLine.{BadLine}
 use Rattle.fsd_texts.specs.declared.end.End.TheVariants.{Bad}
@@ -11,7 +12,7 @@ use Rattle.fsd_texts.specs.declared.script_command.ScriptCommand.{ScriptCommand}
 use Rattle.fsd_texts.specs.Script.{script_in}
 use Rattle.fsd_texts.specs.Text.{text}
 use Rattle.fsd_runs.specs.Commands.{reply_text}
-use Rattle.fsd_runs.specs.Errands.{forced_turn}
+use Rattle.fsd_runs.specs.Errands.{Errand, forced_turn}
 use Rattle.volume_turns.specs.declared.turns.Halt.{Halt}
 use Rattle.volume_turns.specs.Calls.{MayReplyTo}
 use Rattle.volume_turns.specs.Turns.{SaysWhole}
@@ -22,10 +23,25 @@ pub record SaysOnce (says : Reply → List ℕ) (command : ScriptCommand) (old n
   pub may : MayReplyTo command new.image reply
   pub said : new.said ≡ old.said ++ says reply
 
--- A command has said whole replies, and no more; where it is done, one that it may have.
-pub record SaysStep {D T : Type 0} (M : Ghosts D) (says : Reply → List ℕ) (command : ScriptCommand) (a b : D) (result : Result T Halt) : Type 0 where
-  pub whole_replies : M.honest b → SaysWhole says (M.now a) (M.now b) result
-  pub once : OnOk result (M.honest b → SaysOnce says command (M.now a) (M.now b))
+-- no sync is done, or one for a reply that tells something as forced, which the command may have
+abbrev pub SyncsFor : (forces : Reply → Bool) → ScriptCommand → (old new : Ledger) → Type 0
+SyncsFor forces command old new = (new.syncs ≡ old.syncs) ⊎ ((i : Image) × (reply : Reply) × MayReplyTo command i reply × IsTrue (forces reply) × (new.syncs ≡ old.syncs + 1))
+
+-- A command has said whole replies, and no more; where it is done, one that it may have. It does no sync but in front of a
+-- reply that tells something as forced.
+pub record SaysStep {D T : Type 0} (M : Ghosts D) (e : Errand) (command : ScriptCommand) (a b : D) (result : Result T Halt) : Type 0 where
+  pub whole_replies : M.honest b → SaysWhole e.says (M.now a) (M.now b) result
+  pub once : OnOk result (M.honest b → SaysOnce e.says command (M.now a) (M.now b))
+  pub syncs : M.honest b → SyncsFor e.forces command (M.ledger a) (M.ledger b)
+
+-- a count of commands in which each counts that may have a reply that tells something as forced
+abbrev pub CountsForced : (forces : Reply → Bool) → (count : ScriptCommand → ℕ) → Type 0
+CountsForced forces count = (command : ScriptCommand) (i : Image) (reply : Reply) → MayReplyTo command i reply → IsTrue (forces reply) → 1 ≤ count command
+
+-- Of these commands those that are left are still to be done: by each such count no more syncs were done than the others
+-- count, and so many more.
+abbrev pub SyncsRead : (forces : Reply → Bool) → (more : ℕ) → (commands left : List ScriptCommand) → (old new : Ledger) → Type 0
+SyncsRead forces more commands left old new = (count : ScriptCommand → ℕ) → CountsForced forces count → new.syncs + sum_by count left ≤ old.syncs + (sum_by count commands + more)
 
 -- it may be answered so over the image of one of these moments
 abbrev pub MayReplyIn : (Past : Moment → Type 0) → ScriptCommand → Reply → Type 0

@@ -17,6 +17,7 @@ pub mod Script
 pub mod Seats
 pub mod Status
 pub mod Steps
+pub mod Syncs
 pub mod Taking
 pub mod Tally
 pub mod Turns

@@ -1,9 +1,9 @@
 -- What a run over an image does from the mount to its last line, and what it leaves of a sound one.
-use Rattle.std.specs.Prelude.{◌≡◌, ◌≤◌, Bool, List, [], ℕ, length, IsTrue}
+use Rattle.std.specs.Prelude.{◌≡◌, ◌≤◌, ◌+◌, Bool, List, [], ℕ, length, IsTrue}
 use Rattle.volume_layout.specs.declared.layout.Layout.{Layout}
 use Rattle.sector_disk.specs.declared.machine.Machine.{Ghosts}
 use Rattle.sector_disk.specs.Calls.{IsHeld, Since}
-use Rattle.sector_disk.specs.Machine.{Moment, OnlyWrites, Trusts}
+use Rattle.sector_disk.specs.Machine.{Moment, Trusts}
 use Rattle.fsd_texts.specs.declared.end.End.TheVariants.{Done}
 use Rattle.fsd_texts.specs.Script.{max_input, script_in}
 use Rattle.fsd_runs.specs.Commands.{reply_text}
@@ -13,6 +13,7 @@ use Rattle.volume_contract.specs.Mount.{IsSoundAt}
 use Rattle.volume_turns.specs.Causes.{FailsInput, SaysFaultAt, SaysOfCall, SaysOfInput, is_of_fault}
 use Rattle.volume_turns.specs.Each.{SaysBadLine, SaysForced}
 use Rattle.volume_turns.specs.Status.{CountsRun, CountsTaking}
+use Rattle.volume_turns.specs.Syncs.{SyncsUpTo}
 
 -- Its status is one of these; a machine that tells, or is honest, behind it was so before; and where the status is that
 -- of a fault, the last line is this fault's.
@@ -28,15 +29,16 @@ pub record EndsMounted {D : Type 0} (M : Ghosts D) (IsStatus : ℕ → Type 0) (
 
 -- ---- the input
 
--- It asks for nothing but writes, and what is counted is as its status says.
+-- It asks for nothing but writes and one sync, and what is counted is as its status says.
 pub record TakesNothing {D : Type 0} (M : Ghosts D) (a b : D) (result : ℕ) : Type 0 where
-  pub ledger : M.tells b → OnlyWrites (M.ledger a) (M.ledger b)
+  pub ledger : M.tells b → SyncsUpTo 1 (M.ledger a) (M.ledger b)
   pub counts : CountsRun (M.report a) (M.report b) result
 
--- It takes input and attaches nothing; what is counted is as its status says, and at 5 the input has failed or is too
--- long, and this is said.
-pub record TakesInput {D : Type 0} (M : Ghosts D) (a b : D) (result : ℕ) : Type 0 where
+-- It takes input and attaches nothing, and over a machine that is so it does so many syncs at most; what is counted is as its
+-- status says, and at 5 the input has failed or is too long, and this is said.
+pub record TakesInput {D : Type 0} (M : Ghosts D) (Trusted : D → Type 0) (most : ℕ) (a b : D) (result : ℕ) : Type 0 where
   pub attaches : M.tells b → (M.ledger b).attaches ≡ (M.ledger a).attaches
+  pub syncs : Trusted b → (M.ledger b).syncs ≤ (M.ledger a).syncs + most
   pub counts : CountsTaking (M.report a) (M.report b) result
   pub input : result ≡ 5 → M.tells b → FailsInput (M.ledger a).input (M.report a) (M.report b)
   pub fails : result ≡ 5 → M.honest b → SaysOfInput (M.ledger a).input (M.report a) (M.report b) (M.now b)

@@ -21,7 +21,7 @@ use Rattle.volume_turns.specs.declared.turns.Halt.{Halt}
 use Rattle.volume_turns.specs.declared.turns.Halt.TheVariants.{Fault as Stopped}
 use Rattle.volume_turns.specs.declared.script.Stop.{Stop}
 use Rattle.volume_turns.specs.declared.script.Stop.TheVariants.{Ended, Input, WornOut}
-use Rattle.volume_turns.specs.Each.{SaysBetween, SaysForced}
+use Rattle.volume_turns.specs.Each.{SaysBetween, SaysForced, SyncsRead}
 use Rattle.volume_turns.specs.Group.{IsGroup}
 use Rattle.volume_turns.specs.Turns.{BreaksWhole, IsEndOfVolume, IsEndOn, IsWant, KeepsCalls, RunsTurns, SaysWhole, Unheard, device_end}
 
@@ -80,20 +80,28 @@ abbrev pub GoesOnReading : Reading → Reading → Option Stop → Type 0
 GoesOnReading old new None = (new.given ≡ old.given + 1) × (new.end ≡ None) × (new.given ≤ max_input)
 GoesOnReading old new other = ⊤
 
+-- the commands that are left, where there was one and no end
+abbrev pub left_by : Result (Option Stop) Halt → List ScriptCommand → List ScriptCommand
+left_by (Ok None) left = left
+left_by result left = []
+
 -- A fault of the input is counted where that ends it, and no other; where the script is done, all of the input is taken.
--- The reader goes on, and has not taken too much while its end is not known.
-pub record ReadsNext {D : Type 0} (M : Ghosts D) (r s : Reading) (a b : D) (result : Result (Option Stop) Halt) : Type 0 where
+-- The reader goes on, and has not taken too much while its end is not known. No more syncs are done than the command may
+-- have replies that tell something as forced.
+pub record ReadsNext {D : Type 0} (M : Ghosts D) (forces : Reply → Bool) (r s : Reading) (a b : D) (result : Result (Option Stop) Halt) : Type 0 where
   pub rose : IfOk result (RoseBy (M.report a) (M.report b))
   pub quiet : OnErr result ((M.report b).input_faults ≡ (M.report a).input_faults)
   pub whole : result ≡ Ok (Some (Ended Done)) → r.end ≡ None → M.tells b → (M.ledger b).input ≡ []
   pub on : IfOk result (GoesOnReading r s)
   pub few : s.end ≡ None → s.taken ≤ max_input
+  pub syncs : M.honest b → SyncsRead forces 0 (script_left r (M.ledger a).input).0 (left_by result (script_left s (M.ledger b).input).0) (M.ledger a) (M.ledger b)
 
 -- So it is of the input from its first byte on.
-pub record ReadsInput {D : Type 0} (M : Ghosts D) (a b : D) (result : Result Stop Halt) : Type 0 where
+pub record ReadsInput {D : Type 0} (M : Ghosts D) (forces : Reply → Bool) (a b : D) (result : Result Stop Halt) : Type 0 where
   pub rose : IfOk result (λ stop. RoseBy (M.report a) (M.report b) (Some stop))
   pub quiet : OnErr result ((M.report b).input_faults ≡ (M.report a).input_faults)
   pub whole : result ≡ Ok (Ended Done) → M.tells b → (M.ledger b).input ≡ []
+  pub syncs : M.honest b → SyncsRead forces 0 (script_in (M.ledger a).input).0 [] (M.ledger a) (M.ledger b)
 
 -- A fault of the input is counted where that ends it; where memory is wanted, or the mount is worn out, none is.
 pub record HearsInput (old new : Report) (result : Result Stop Halt) : Type 0 where
@@ -101,11 +109,12 @@ pub record HearsInput (old new : Report) (result : Result Stop Halt) : Type 0 wh
   pub memory : IfErr result (SparesWanting old new)
 
 -- Where it is told that the script has ended so, it does; where it is done all of the input is taken; and a reply was said
--- for each of its commands, and last that all is forced.
+-- for each of its commands, and last that all is forced. One more sync than those of the commands is done at most.
 pub record EndsScript {D : Type 0} (M : Ghosts D) (e : Errand) (a b : D) (result : Result Stop Halt) : Type 0 where
   pub ends : (end : End) → result ≡ Ok (Ended end) → M.tells b → (script_in (M.ledger a).input).1 ≡ end
   pub whole : result ≡ Ok (Ended Done) → M.tells b → (M.ledger b).input ≡ []
   pub says : (end : End) → result ≡ Ok (Ended end) → M.honest b → (t : ℕ) → t ≤ M.moment a → SaysForced e.says (M.left_since b t) (script_in (M.ledger a).input).0 (M.now a).said (M.now b).said
+  pub syncs : M.honest b → SyncsRead e.forces 1 (script_in (M.ledger a).input).0 [] (M.ledger a) (M.ledger b)
 
 -- Some bytes of the input are taken: whatever stands behind them, they spell these commands and what is to come.
 pub record Spells (before left : List ℕ) (old new : Reading) (commands : List ScriptCommand) : Type 0 where

@@ -4,7 +4,7 @@ use Rattle.volume_layout.specs.declared.layout.Layout.{Layout}
 use Rattle.fsd_log.specs.Scan.{Placed}
 use Rattle.std.specs.List.{flat_map, list_any}
 use Rattle.sector_disk.specs.declared.machine.Machine.{Ghosts}
-use Rattle.sector_disk.specs.Machine.{Moment, OnlyWrites, Report, Rose, Trusts, Utters, Wears}
+use Rattle.sector_disk.specs.Machine.{Moment, Report, Rose, Trusts, Utters, Wears}
 use Rattle.fsd_files.specs.Disk.{Image, in_runs}
 use Rattle.fsd_files.specs.Desk.{Session}
 use Rattle.fsd_files.specs.declared.reply.Reply.{Reply}
@@ -25,6 +25,7 @@ use Rattle.sector_disk.specs.Calls.{DiskFaults, IsHeld, Since, StopsOnly}
 use Rattle.volume_contract.specs.State.{State, Ages, Known, forced_of}
 use Rattle.volume_turns.specs.Seats.{Seated, SitsAt, known_of, session_in}
 use Rattle.volume_turns.specs.Steps.{IsOfCall, IsToldOn, device_told}
+use Rattle.volume_turns.specs.Syncs.{SyncsOnce, SyncsUpTo}
 
 -- What a stop leaves in a run of these turns over a volume that stands so, of whose changes so many were told as forced:
 -- some turns are said whole, and a part of what comes next. The disk is sound for the changes of the turns said and of the
@@ -234,21 +235,22 @@ pub record FaultTold {T : Type 0} (old new : Report) (result : Result T Halt) : 
   pub later : old.output_faults ≤ new.output_faults
   pub output : Unheard old new result
 
--- What a text that is said asks for and keeps, with the sync in front of it where one is: nothing is asked for beside.
-pub record SaysText {D T : Type 0} (M : Ghosts D) (a b : D) (result : Result T Halt) : Type 0 where
+-- What a text that is said asks for and keeps: where it is to stand behind a sync that sync, else no sync, and nothing
+-- beside.
+pub record SaysText {D T : Type 0} (M : Ghosts D) (syncs : Bool) (a b : D) (result : Result T Halt) : Type 0 where
   pub told : FaultTold (M.report a) (M.report b) result
   pub fault : IfErr result IsEndOfVolume
-  pub ledger : M.tells b → M.ledger b ≡ M.ledger a
+  pub ledger : M.tells b → SyncsOnce syncs (M.ledger a) (M.ledger b)
   pub trust : Trusts (M.tells a) (M.tells b) (M.honest a) (M.honest b)
   pub since : M.honest b → Since M a b
 
 -- What commands over a mounted volume, with what is said of them, ask for and keep: the end of the volume is told as it is
--- counted, and is one of a call of it or of the output; nothing is asked for but writes; a machine that tells, or is
--- honest, behind them was so before; what a stop might have left before it might leave still.
-pub record Speaks {D T : Type 0} (M : Ghosts D) (a b : D) (result : Result T Halt) : Type 0 where
+-- counted, and is one of a call of it or of the output; nothing is asked for but writes and so many syncs at most; a machine
+-- that tells, or is honest, behind them was so before; what a stop might have left before it might leave still.
+pub record Speaks {D T : Type 0} (M : Ghosts D) (most : ℕ) (a b : D) (result : Result T Halt) : Type 0 where
   pub told : FaultTold (M.report a) (M.report b) result
   pub fault : IfErr result IsEndOfVolume
-  pub ledger : M.tells b → OnlyWrites (M.ledger a) (M.ledger b)
+  pub ledger : M.tells b → SyncsUpTo most (M.ledger a) (M.ledger b)
   pub trust : Trusts (M.tells a) (M.tells b) (M.honest a) (M.honest b)
   pub since : M.honest b → Since M a b
   pub later : M.honest b → M.moment a ≤ M.moment b

@@ -46,7 +46,7 @@ fn do_counted<M: Machine, V: Files<M>>(
     requires other { is_upgrade c.now ≡ false }
     requires few { tally.now.count < 2 ^ 32 - 1 }
     ensures keeps { KeepsSeat (V.state v.old) (V.state v.new) no_desk result }
-    ensures speaks { Speaks M.Machine m.old m.new result }
+    ensures speaks { Speaks M.Machine 0 m.old m.new result }
     ensures says { SaysNothing M.Machine (MayLose c.now) (V.state v.old).layout m.old m.new result }
     ensures numbers { UsesNumbers M.Machine 1 (V.state v.old) (V.state v.new) m.new result }
     ensures counts { IfOk result (λ t. t.count ≡ tally.now.count + 1) }
@@ -74,7 +74,7 @@ fn draw<M: Machine, V: Files<M>>(
     requires idle { IsDesk (V.state v.old) no_desk }
     requires few { tally.now.count < 2 ^ 32 - 1 }
     ensures keeps { KeepsSeat (V.state v.old) (V.state v.new) no_desk result }
-    ensures speaks { Speaks M.Machine m.old m.new result }
+    ensures speaks { Speaks M.Machine 0 m.old m.new result }
     ensures says { SaysNothing M.Machine AreOfPage (V.state v.old).layout m.old m.new result }
     ensures numbers { UsesNumbers M.Machine 1 (V.state v.old) (V.state v.new) m.new result }
     ensures counts { IfOk result (λ o. IfSome o (λ t. t.count ≡ tally.now.count + 1)) }
@@ -102,7 +102,7 @@ fn make_up<M: Machine, V: Files<M>>(
     requires up { (V.state v.old).down ≡ None }
     requires idle { IsDesk (V.state v.old) no_desk }
     ensures layout { (V.state v.new).layout ≡ (V.state v.old).layout }
-    ensures speaks { Speaks M.Machine m.old m.new result }
+    ensures speaks { Speaks M.Machine 0 m.old m.new result }
     ensures says { SaysNothing M.Machine AreOfPage (V.state v.old).layout m.old m.new result }
     ensures used { result ≡ Err (Stopped Ends.WornOut) → M.honest m.new → MayWear count (V.state v.old) }
     ensures counts { IfOk result (λ t. t.count ≡ count) }
@@ -123,7 +123,7 @@ fn make_up<M: Machine, V: Files<M>>(
 /// Ends the use of a volume, and says that all is forced.
 pub(crate) fn close_forced<M: Machine, V: Files<M>>(v: V, m: &mut M) -> Result<(), Halt>
     requires room { (V.state v).layout.sectors ≤ (M.report m.old).sectors }
-    ensures speaks { Speaks M.Machine m.old m.new result }
+    ensures speaks { Speaks M.Machine 1 m.old m.new result }
     ensures forces { SaysForcedOver M.Machine (V.state v).layout m.old m.new result }
     ensures wants { (V.state v).down ≡ None → IfErr result WantsNone }
     ensures closes { M.honest m.new → (k : Known) (f : ℕ) → Stands V.state V.holds v k (M.now m.old) → OnDisk M.Machine k f m.old → ClosesAndSays M.Machine k f forced_turn.said m.old m.new result }
@@ -144,7 +144,7 @@ fn force_behind<M: Machine, V: Files<M>>(
     tally: Option<Tally>,
 ) -> Result<Option<Tally>, Halt>
     requires room { (V.state v).layout.sectors ≤ (M.report m.old).sectors }
-    ensures speaks { Speaks M.Machine m.old m.new result }
+    ensures speaks { Speaks M.Machine 1 m.old m.new result }
     ensures forces { SaysForcedOver M.Machine (V.state v).layout m.old m.new result }
     ensures wants { (V.state v).down ≡ None → IfErr result WantsNone }
     ensures same { IfOk result (λ x. x ≡ tally) }
@@ -168,7 +168,7 @@ fn make_group<M: Machine, V: Files<M> + Drop>(
     requires room { (V.state v).layout.sectors ≤ (M.report m.old).sectors }
     requires up { (V.state v).down ≡ None }
     requires idle { IsDesk (V.state v) no_desk }
-    ensures speaks { Speaks M.Machine m.old m.new result }
+    ensures speaks { Speaks M.Machine 1 m.old m.new result }
     ensures forces { SaysForcedOver M.Machine (V.state v).layout m.old m.new result }
     ensures used { result ≡ Ok None → M.honest m.new → MayWear count (V.state v) }
     ensures counts { IfOk result (λ o. IfSome o (λ t. t.count ≡ count)) }

@@ -57,7 +57,7 @@ fn put_on<M: Machine, V: Files<M> + Drop, T: Says>(
     requires fresh { IsTrue (is_fresh (V.state v)) }
     requires says { T.errand.says ≡ reply_alone }
     ensures ends { EndsMounted M.Machine IsPutStatus m.old m.new result }
-    ensures takes { TakesInput M.Machine m.old m.new result }
+    ensures takes { TakesInput M.Machine M.tells 1 m.old m.new result }
     ensures whole { result ≤ 1 → M.tells m.new → TakesToEnd (M.ledger m.old).input (M.ledger m.new).input }
     ensures tells { M.honest m.new → TellsMounted false AreOfPage (V.state v).layout ⊥ (M.now m.old) (M.now m.new) result }
     ensures one { M.honest m.new → (V.state v).dirty ≡ [] → SaysOne (Word.Put name (M.ledger m.old).input keep) (M.now m.old) (M.now m.new) result }
@@ -83,7 +83,7 @@ pub fn run_put<M: Machine, V: Files<M> + Drop, T: Says>(
     requires sectors { sectors ≡ (M.report m.old).sectors }
     requires says { T.errand.says ≡ reply_alone }
     ensures ends { EndsRun M.Machine IsPutStatus m.old m.new result }
-    ensures takes { TakesInput M.Machine m.old m.new result }
+    ensures takes { TakesInput M.Machine M.tells 1 m.old m.new result }
     ensures whole { result ≤ 1 → M.tells m.new → TakesToEnd (M.ledger m.old).input (M.ledger m.new).input }
     ensures image { M.honest m.new → TellsImage false AreOfPage None sectors (M.now m.old) (M.now m.new) result }
     ensures one { M.honest m.new → SaysOne (Word.Put name (M.ledger m.old).input keep) (M.now m.old) (M.now m.new) result }

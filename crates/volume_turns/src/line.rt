@@ -65,7 +65,7 @@ fn say_text<M: Machine>(m: &mut M, text: &[u8], gives: u8) -> u8
 
 /// Says a text that tells something as forced: all that was written is brought to the disk first.
 pub(crate) fn say_forced<M: Machine>(m: &mut M, text: &[u8]) -> Result<(), Halt>
-    ensures says { SaysText M.Machine m.old m.new result }
+    ensures says { SaysText M.Machine true m.old m.new result }
     ensures wants { IfErr result WantsNone }
     ensures moments { M.honest m.new → LeavesOnly M.moment M.left_since m.old m.new (UttersBehind true text.now (M.now m.old)) }
     ensures synced { OnOk result (M.honest m.new → (M.now m.old).time ≤ (M.now m.new).synced) }
@@ -80,7 +80,7 @@ pub(crate) fn say_forced<M: Machine>(m: &mut M, text: &[u8]) -> Result<(), Halt>
 
 /// Says a text.
 pub(crate) fn say_bytes<M: Machine>(m: &mut M, text: &[u8]) -> Result<(), Halt>
-    ensures says { SaysText M.Machine m.old m.new result }
+    ensures says { SaysText M.Machine false m.old m.new result }
     ensures output { IfErr result (λ end. end ≡ Output) }
     ensures moments { M.honest m.new → LeavesOnly M.moment M.left_since m.old m.new (Utters text.now (M.now m.old)) }
     ensures said { OnOk result (M.honest m.new → SaysAll text.now (M.now m.old) (M.now m.new)) }

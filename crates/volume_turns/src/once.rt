@@ -41,7 +41,7 @@ pub(crate) fn close_and_say<M: Machine, V: Files<M>>(
     text: &[u8],
 ) -> Result<(), Halt>
     requires room { (V.state v).layout.sectors ≤ (M.report m.old).sectors }
-    ensures speaks { Speaks M.Machine m.old m.new result }
+    ensures speaks { Speaks M.Machine 1 m.old m.new result }
     ensures closing { M.honest m.new → ClosesBy (V.state v) text.now (M.now m.old) (M.now m.new) result }
     ensures wants { (V.state v).down ≡ None → IfErr result WantsNone }
     ensures closes { M.honest m.new → (k : Known) (f : ℕ) → Stands V.state V.holds v k (M.now m.old) → OnDisk M.Machine k f m.old → ClosesAndSays M.Machine k f text.now m.old m.new result }
@@ -76,7 +76,7 @@ pub(crate) fn close_as<M: Machine, V: Files<M> + Drop, T: Says>(
     requires up { (V.state v).down ≡ None }
     ensures undone { result ≡ Err (Stopped Ends.Memory) → m.new ≡ m.old }
     ensures status { IfOk result (λ status. status ≡ reply_status answer.now) }
-    ensures speaks { Speaks M.Machine m.old m.new result }
+    ensures speaks { Speaks M.Machine 1 m.old m.new result }
     ensures closing { M.honest m.new → ClosesBy (V.state v) (T.errand.says answer.now) (M.now m.old) (M.now m.new) (unit_of result) }
     ensures closes { M.honest m.new → (k : Known) (f : ℕ) → Stands V.state V.holds v k (M.now m.old) → OnDisk M.Machine k f m.old → ClosesAndSays M.Machine k f (T.errand.says answer.now) m.old m.new (unit_of result) }
 {
@@ -101,7 +101,7 @@ pub fn alone<M: Machine, V: Files<M> + Drop, T: Says>(
     requires unworn { is_worn (V.state v) ≡ false }
     requires fresh { IsTrue (is_fresh (V.state v)) }
     requires says { T.errand.says ≡ reply_alone }
-    ensures speaks { Speaks M.Machine m.old m.new result }
+    ensures speaks { Speaks M.Machine 1 m.old m.new result }
     ensures status { IfOk result (IsStatusFrom c.now) }
     ensures answers { M.honest m.new → AnswersAlone c.now (V.state v) (M.now m.old) (M.now m.new) result }
     ensures does { M.honest m.new → (k : Known) → (volume_of k).unforced ≡ 0 → k.opened ≡ none_open → Stands V.state V.holds v k (M.now m.old) → OnDisk M.Machine k (forced_of k) m.old → IsAlone M.Machine c.now k m.old m.new result }
@@ -124,7 +124,7 @@ fn answer_alone<M: Machine, V: Files<M> + Drop, T: Says>(
     requires unworn { is_worn (V.state v) ≡ false }
     requires other { is_upgrade c.now ≡ false }
     requires says { T.errand.says ≡ reply_alone }
-    ensures speaks { Speaks M.Machine m.old m.new result }
+    ensures speaks { Speaks M.Machine 1 m.old m.new result }
     ensures status { IfOk result (IsStatusFrom c.now) }
     ensures answers { M.honest m.new → AnswersAlone c.now (V.state v) (M.now m.old) (M.now m.new) result }
     ensures does { M.honest m.new → (k : Known) → (volume_of k).unforced ≡ 0 → k.opened ≡ none_open → Stands V.state V.holds v k (M.now m.old) → OnDisk M.Machine k (forced_of k) m.old → IsAlone M.Machine c.now k m.old m.new result }

@@ -20,6 +20,7 @@ ghost use Rattle.volume_turns.specs.Once.{ClosesAndSays, SaysForcedOver, unit_of
 ghost use Rattle.volume_turns.specs.Running.{EndsMounted, EndsRun, LeavesOver, ReadsAll, SaysScript, TakesInput, TellsMounted};
 ghost use Rattle.volume_turns.specs.Seats.{KeepsSeat, Seated, SitsAt, known_of};
 ghost use Rattle.volume_turns.specs.Status.{IsScriptStatus};
+ghost use Rattle.volume_turns.specs.Syncs.{most_in_script};
 ghost use Rattle.volume_turns.specs.declared.script.Stop.TheVariants.{WornOut};
 ghost use Rattle.volume_turns.specs.declared.turns.Halt.TheVariants.{Fault as Stopped};
 ghost use Rattle.fsd_texts.specs.declared.fault.Fault.TheVariants as Ends;
@@ -64,7 +65,7 @@ fn read_on<M: Machine, V: Files<M>, T: Says>(
     ensures speaks { SpeaksReading M.Machine m.old m.new result }
     ensures says { SaysRead M.Machine T.errand.says (V.state v.old).layout m.old m.new result }
     ensures numbers { UsesNumbers M.Machine 1 (V.state v.old) (V.state v.new) m.new result }
-    ensures input { ReadsNext M.Machine reader.old reader.new m.old m.new result }
+    ensures input { ReadsNext M.Machine T.errand.forces reader.old reader.new m.old m.new result }
     ensures reads { M.tells m.new → ReadsScript V.state V.holds M.Machine T.errand reader.old reader.new (v.old, desk.old) m.old (v.new, desk.new) m.new result }
 {
     match reader.next_command(alloc, m) {
@@ -94,7 +95,7 @@ fn read_all<M: Machine, V: Files<M>, T: Says>(
     ensures keeps { KeepsSeat (V.state v.old) (V.state v.new) desk.new result }
     ensures speaks { SpeaksReading M.Machine m.old m.new result }
     ensures says { SaysAllRead M.Machine T.errand.says (V.state v.old).layout m.old m.new result }
-    ensures input { ReadsInput M.Machine m.old m.new result }
+    ensures input { ReadsInput M.Machine T.errand.forces m.old m.new result }
     ensures used { result ≡ Err (Stopped Ends.WornOut) → M.honest m.new → MayWear (max_input + 1) (V.state v.old) }
     ensures reads { M.tells m.new → WholeRead V.state V.holds M.Machine T.errand (v.old, desk.old) m.old (v.new, desk.new) m.new result }
 {
@@ -150,7 +151,7 @@ fn force_read<M: Machine, V: Files<M>>(
 ) -> Result<Stop, Halt>
     requires room { (V.state v).layout.sectors ≤ (M.report m.old).sectors }
     requires desk { IsDesk (V.state v) desk }
-    ensures speaks { Speaks M.Machine m.old m.new result }
+    ensures speaks { Speaks M.Machine 1 m.old m.new result }
     ensures forces { SaysForcedOver M.Machine (V.state v).layout m.old m.new result }
     ensures wants { (V.state v).down ≡ None → IfErr result WantsNone }
     ensures same { IfOk result (λ x. x ≡ stop) }
@@ -215,7 +216,7 @@ fn script_on<M: Machine, V: Files<M> + Drop, T: Says>(alloc: Global, v: V, m: &m
     requires says { T.errand.says ≡ reply_text }
     requires forces { T.errand.forces ≡ is_forced }
     ensures ends { EndsMounted M.Machine IsScriptStatus m.old m.new result }
-    ensures takes { TakesInput M.Machine m.old m.new result }
+    ensures takes { TakesInput M.Machine M.honest (most_in_script (M.ledger m.old).input) m.old m.new result }
     ensures whole { result ≡ 0 → M.tells m.new → ReadsAll (M.ledger m.old).input (M.ledger m.new).input }
     ensures tells { M.honest m.new → TellsMounted true AreOfPage (V.state v).layout (MayWear (max_input + 1) (V.state v)) (M.now m.old) (M.now m.new) result }
     ensures says { M.honest m.new → SaysScript M.Machine m.old m.new result }
@@ -237,7 +238,7 @@ pub fn run_script<M: Machine, V: Files<M> + Drop, T: Says>(
     requires says { T.errand.says ≡ reply_text }
     requires forces { T.errand.forces ≡ is_forced }
     ensures ends { EndsRun M.Machine IsScriptStatus m.old m.new result }
-    ensures takes { TakesInput M.Machine m.old m.new result }
+    ensures takes { TakesInput M.Machine M.honest (most_in_script (M.ledger m.old).input) m.old m.new result }
     ensures whole { result ≡ 0 → M.tells m.new → ReadsAll (M.ledger m.old).input (M.ledger m.new).input }
     ensures image { M.honest m.new → TellsImage true AreOfPage None sectors (M.now m.old) (M.now m.new) result }
     ensures says { M.honest m.new → SaysScript M.Machine m.old m.new result }

@@ -5,6 +5,7 @@ ghost use Rattle.sector_disk.specs.Machine.{Wears};
 ghost use Rattle.fsd_texts.specs.Script.{max_input};
 ghost use Rattle.script_text.specs.Taking.{ComesIn};
 ghost use Rattle.volume_turns.specs.declared.taking.InputFault.TheVariants.{TooLong as Long};
+ghost use Rattle.volume_turns.specs.Syncs.{OnlyTakes};
 ghost use Rattle.volume_turns.specs.Taking.{taking_failed};
 
 use fsd_texts::Bytes;
@@ -30,7 +31,7 @@ fn take_piece<M: Machine>(m: &mut M, bytes: &mut Bytes) -> Result<usize, InputFa
     ensures calls { LeavesDisk M.Machine (taking_failed result) false Wears m.old m.new }
     ensures comes { IfOk result (λ count. M.tells m.new → ComesIn bytes.old bytes.new count (M.ledger m.old) (M.ledger m.new)) }
     ensures more { IfOk result (λ count. length bytes.new ≡ length bytes.old + count) }
-    ensures attaches { M.tells m.new → (M.ledger m.new).attaches ≡ (M.ledger m.old).attaches }
+    ensures takes { M.tells m.new → OnlyTakes (M.ledger m.old) (M.ledger m.new) }
     ensures some { IfErr result (λ fault. fault ≡ Long → ⊥) }
 {
     let mut piece = [0u8; 4096];
@@ -50,7 +51,7 @@ pub(crate) fn read_input<M: Machine>(alloc: Global, m: &mut M) -> Result<Bytes, 
     ensures end { IfOk result (λ bytes. M.tells m.new → (M.ledger m.new).input ≡ []) }
     ensures few { IfOk result (λ bytes. length bytes ≤ max_input) }
     ensures long { result ≡ Err Long → M.tells m.new → max_input < length (M.ledger m.old).input }
-    ensures attaches { M.tells m.new → (M.ledger m.new).attaches ≡ (M.ledger m.old).attaches }
+    ensures takes { M.tells m.new → OnlyTakes (M.ledger m.old) (M.ledger m.new) }
 {
     let mut bytes = Bytes::new(alloc);
     for _ in 0..MOST_INPUT + 1 {

@@ -55,7 +55,7 @@ pub trait Says {
 
 // Says a reply; one that tells as forced behind a sync.
 pub(crate) fn say<M: Machine, T: Says>(alloc: Global, m: &mut M, answer: &Reply) -> Result<(), Halt>
-    ensures says { SaysText M.Machine m.old m.new result }
+    ensures says { SaysText M.Machine (T.errand.forces answer.now) m.old m.new result }
     ensures moments { M.honest m.new → LeavesOnly M.moment M.left_since m.old m.new (UttersBehind (T.errand.forces answer.now) (T.errand.says answer.now) (M.now m.old)) }
     ensures synced { OnOk result (IsTrue (T.errand.forces answer.now) → M.honest m.new → (M.now m.old).time ≤ (M.now m.new).synced) }
     ensures said { OnOk result (M.honest m.new → SaysAll (T.errand.says answer.now) (M.now m.old) (M.now m.new)) }
@@ -85,9 +85,9 @@ pub(crate) fn step<M: Machine, V: Files<M>, T: Says>(
     requires other { is_upgrade_in c.now ≡ false }
     requires lazily { (x : Meeting) (s : Session) (w : Word) → IsTrue (T.errand.forces (answer_in x s w).0) → (answer_in x s w).1.volume.unforced ≡ 0 }
     ensures keeps { KeepsSeat (V.state v.old) (V.state v.new) desk.new result }
-    ensures speaks { Speaks M.Machine m.old m.new result }
+    ensures speaks { Speaks M.Machine 1 m.old m.new result }
     ensures steps { Steps V.state V.holds M.Machine T.errand c.now (v.old, desk.old) m.old (v.new, desk.new) m.new result }
-    ensures says { SaysStep M.Machine T.errand.says c.now m.old m.new result }
+    ensures says { SaysStep M.Machine T.errand c.now m.old m.new result }
     ensures image { IfErr result (λ end. M.honest m.new → IsEndOn (MayLoseIn c.now) (V.state v.old).layout (M.now m.new).image end) }
     ensures numbers { UsesNumbers M.Machine 1 (V.state v.old) (V.state v.new) m.new result }
 {

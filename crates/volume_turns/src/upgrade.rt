@@ -63,7 +63,7 @@ pub(crate) fn upgrade_alone<M: Machine, V: Files<M> + Drop, T: Says>(
     requires fresh { IsTrue (is_fresh (V.state v)) }
     requires says { T.errand.says ≡ reply_alone }
     ensures undone { result ≡ Err (Stopped Ends.Memory) → m.new ≡ m.old }
-    ensures speaks { Speaks M.Machine m.old m.new result }
+    ensures speaks { Speaks M.Machine 1 m.old m.new result }
     ensures status { IfOk result (IsStatusFrom Word.Upgrade) }
     ensures answers { M.honest m.new → AnswersAlone Word.Upgrade (V.state v) (M.now m.old) (M.now m.new) result }
     ensures does { M.honest m.new → (k : Known) → (volume_of k).unforced ≡ 0 → k.opened ≡ none_open → Stands V.state V.holds v k (M.now m.old) → OnDisk M.Machine k (forced_of k) m.old → IsAlone M.Machine Word.Upgrade k m.old m.new result }

@@ -26,7 +26,7 @@ returns-in-Err g c =
     subst (λ (planned : Result Layout LayoutFault). RunsFormat M planned c.args.path.now a z status) (sym c.in-Err.is ∙ c.plan_of.ensures) (record {
       status = unplanned_status why status end.status;
       counts = counts_line (M.report a) (M.report a) (M.report z) status refl refl end.says.spares 1 (λ e. omega (arith, e)) refl end.status;
-      asks = λ t. record { input = ap (λ (l : Ledger). l.input) (end.ledger t); attaches = inr (ap (λ (l : Ledger). l.attaches) (end.ledger t)) };
+      asks = λ t. record { input = ap (λ (l : Ledger). l.input) (end.ledger t); syncs = ap (λ (l : Ledger). l.syncs) (end.ledger t); attaches = inr (ap (λ (l : Ledger). l.attaches) (end.ledger t)) };
       asked = λ zero t. absurd (not_as 0 1 status (λ e. omega (arith, e)) (λ e. omega (arith, e)) end.status zero);
       trust = end.says.trust;
       says = λ h. format_said (Err why) (M.report z).fault_place (Lines.Unplanned why) 1 (M.now a) (M.now a) (M.now z) status refl (inl (refl, refl)) (end.says.exit h) (end.ends h);

@@ -1,10 +1,10 @@
-use Rattle.std.proofs.Common.{ℕ, List, Some, false, ◌∙◌, subst, inl, []}
+use Rattle.std.proofs.Common.{ℕ, List, Some, false, ◌∙◌, subst, inl, [], arith}
 use Rattle.fsd_runs.specs.declared.request.Request.TheVariants.{Generate}
 use Rattle.volume_turns.specs.Causes.{SaysMade}
 use Rattle.volume_turns.proofs.SayLaws.{timed_by}
 use Rattle.scrub.specs.Telling.{AreOfPage}
 use Rattle.cfs_program.proofs.AmongLaws.{made_complete_is, made_not_five, made_status}
-use Rattle.cfs_program.proofs.AttachLaws.{RunsFound, found_accepted, found_attaches, found_counts, found_image, found_input, found_leaves, found_said, found_spared, found_trust}
+use Rattle.cfs_program.proofs.AttachLaws.{RunsFound, found_accepted, found_attaches, found_counts, found_image, found_input, found_leaves, found_said, found_spared, found_syncs, found_trust}
 use Rattle.cfs_program.proofs.FoundLaws.{TellsFound}
 use Rattle.cfs_program.proofs.making.run_made_up.Goals as goal
 
@@ -38,6 +38,7 @@ returns-in-Ok g c =
       last = does.ends.last;
       image = λ zero h. tt;
       untouched = λ h. tt;
+      syncs = λ t. let none = found_syncs x t in let few = (does.takes.ledger t).syncs in omega (arith, none, few);
       taken = λ t. (does.takes.ledger t).input ∙ found_input x t;
       spared = found_spared x status does.takes.counts;
       input = λ five t. absurd (made_not_five status does.ends.status five);

@@ -1,11 +1,11 @@
-use Rattle.std.proofs.Common.{None, false, inl, ◌∙◌, []}
+use Rattle.std.proofs.Common.{None, false, inl, ◌∙◌, [], arith}
 use Rattle.fsd_runs.specs.declared.request.Request.TheVariants.{One}
 use Rattle.volume_turns.proofs.AnsweringLaws.{one_since}
 use Rattle.volume_turns.specs.Commands.{MayLose}
 use Rattle.volume_turns.proofs.SayLaws.{timed_by}
 use Rattle.volume_turns.proofs.StatusLaws.{one_not_five}
 use Rattle.cfs_program.proofs.AmongLaws.{command_complete, command_status}
-use Rattle.cfs_program.proofs.AttachLaws.{RunsFound, found_accepted, found_attaches, found_counts, found_image, found_input, found_leaves, found_said, found_spared, found_trust}
+use Rattle.cfs_program.proofs.AttachLaws.{RunsFound, found_accepted, found_attaches, found_counts, found_image, found_input, found_leaves, found_said, found_spared, found_syncs, found_trust}
 use Rattle.cfs_program.proofs.FoundLaws.{TellsFound, writes_found}
 use Rattle.cfs_program.proofs.opening.run_command.Goals as goal
 
@@ -39,6 +39,7 @@ returns-in-Ok g c =
       last = does.ends.last;
       image = λ zero h. tt;
       untouched = λ h. tt;
+      syncs = λ t. let none = found_syncs x t in let few = (does.takes.ledger t).syncs in omega (arith, none, few);
       taken = λ t. (does.takes.ledger t).input ∙ found_input x t;
       spared = found_spared x status does.takes.counts;
       input = λ five t. absurd (one_not_five command status does.ends.status five);

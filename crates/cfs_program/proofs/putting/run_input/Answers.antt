@@ -1,4 +1,4 @@
-use Rattle.std.proofs.Common.{None, false, ◌≤◌, inl, length, List, ℕ, subst}
+use Rattle.std.proofs.Common.{None, false, ◌≤◌, inl, length, List, ℕ, subst, arith}
 use Rattle.fsd_texts.specs.Script.{max_input}
 use Rattle.fsd_texts.specs.declared.command.Command.TheVariants as Word
 use Rattle.fsd_runs.specs.declared.request.Request.TheVariants.{Put}
@@ -8,7 +8,7 @@ use Rattle.volume_turns.proofs.AnsweringLaws.{one_since}
 use Rattle.volume_turns.proofs.SayLaws.{timed_by}
 use Rattle.scrub.specs.Telling.{AreOfPage}
 use Rattle.cfs_program.proofs.AmongLaws.{put_complete_is, put_status}
-use Rattle.cfs_program.proofs.AttachLaws.{RunsFound, found_accepted, found_attaches, found_fails, found_image, found_input, found_leaves, found_reading, found_said, found_says_input, found_trust}
+use Rattle.cfs_program.proofs.AttachLaws.{RunsFound, found_accepted, found_attaches, found_fails, found_image, found_input, found_leaves, found_reading, found_said, found_says_input, found_syncs, found_trust}
 use Rattle.cfs_program.proofs.FoundLaws.{TellsFound}
 use Rattle.cfs_program.proofs.putting.run_input.Goals as goal
 
@@ -41,6 +41,7 @@ returns-in-Ok g c =
       last = does.ends.last;
       image = λ zero h. tt;
       untouched = λ h. tt;
+      syncs = λ t. let none = found_syncs x t in let few = does.takes.syncs t in omega (arith, none, few);
       taken = λ t. tt;
       spared = tt;
       input = λ five t. found_fails x t (does.takes.input five t);

@@ -1,14 +1,15 @@
-use Rattle.std.proofs.Common.{true, None, ◌≡◌, inl, List, ℕ, subst}
+use Rattle.std.proofs.Common.{true, None, ◌≡◌, ◌≤◌, ◌+◌, inl, List, ℕ, subst, arith}
 use Rattle.fsd_texts.specs.declared.end.End.TheVariants.{Done}
 use Rattle.fsd_texts.specs.Script.{script_in}
 use Rattle.fsd_runs.specs.declared.request.Request.TheVariants.{Script}
 use Rattle.fsd_runs.specs.Commands.{reply_text}
 use Rattle.fsd_runs.specs.Leaves.{LeavesRun}
 use Rattle.volume_turns.specs.Each.{SaysBadLine, SaysForced}
+use Rattle.volume_turns.specs.Syncs.{most_in_script}
 use Rattle.volume_turns.proofs.SayLaws.{timed_by}
 use Rattle.scrub.specs.Telling.{AreOfPage}
 use Rattle.cfs_program.proofs.AmongLaws.{script_complete_is, script_low, script_status}
-use Rattle.cfs_program.proofs.AttachLaws.{RunsFound, found_accepted, found_attaches, found_fails, found_image, found_input, found_later, found_leaves, found_reading, found_said, found_says_input, found_trust}
+use Rattle.cfs_program.proofs.AttachLaws.{RunsFound, found_accepted, found_attaches, found_fails, found_image, found_input, found_later, found_leaves, found_reading, found_said, found_says_input, found_syncs, found_trust}
 use Rattle.cfs_program.proofs.FoundLaws.{TellsFound}
 use Rattle.cfs_program.proofs.scripting.run_commands.Goals as goal
 
@@ -41,6 +42,9 @@ returns-in-Ok g c =
       last = does.ends.last;
       image = λ zero h. tt;
       untouched = λ h. tt;
+      syncs = λ t h. let none = found_syncs x t in
+          let few = subst (λ (input : List ℕ). (M.ledger z).syncs ≤ (M.ledger b).syncs + most_in_script input) (found_input x t) (does.takes.syncs h) in
+          omega (arith, none, few);
       taken = λ t. tt;
       spared = tt;
       input = λ five t. found_fails x t (does.takes.input five t);

@@ -67,7 +67,7 @@ returns-in-Ok-count-clause-speaks g c = speaks_behind c.in-Ok.ensures.disk (spea
 
 pub returns-in-Ok-clause-speaks : goal.returns-in-Ok-clause-speaks
 returns-in-Ok-clause-speaks g c =
-    subst (λ (w : Fault). Speaks {T = Counts} g.M.Machine c.args.m.now c.answer.new.m (Err (Stopped w))) (sym c.in-Err-count.ensures.err)
+    subst (λ (w : Fault). Speaks {T = Counts} g.M.Machine 0 c.args.m.now c.answer.new.m (Err (Stopped w))) (sym c.in-Err-count.ensures.err)
     (speaks_behind c.in-Ok.ensures.disk (speaks_none c.answer.new.m))
 
 pub returns-clause-speaks : goal.returns-clause-speaks

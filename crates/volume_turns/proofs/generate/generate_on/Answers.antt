@@ -12,7 +12,8 @@ use Rattle.volume_turns.proofs.CauseLaws.{call_says}
 use Rattle.volume_turns.proofs.GenerateLaws.{made_broken, made_said, made_unsaid, made_worn}
 use Rattle.volume_turns.proofs.LastLaws.{ends_fault, fault_not, line_other, told_place}
 use Rattle.volume_turns.proofs.NumberLaws.{ended, made_all}
-use Rattle.volume_turns.proofs.RunLaws.{since_on, writes_on}
+use Rattle.volume_turns.proofs.RunLaws.{since_on}
+use Rattle.volume_turns.proofs.SyncLaws.{syncs_on}
 use Rattle.volume_turns.proofs.SayLaws.{timed_by}
 use Rattle.volume_turns.proofs.StatusLaws.{all_is_made, call_of_volume, fault_counts, fault_is_made, fault_not_zero, line_counts, not_as, unsaid_counts, worn_is_made}
 use Rattle.volume_turns.proofs.WornLaws.{status_worn}
@@ -47,7 +48,7 @@ returns-in-Ok-Some g c =
         since = since_on M a p b line.says.trust.honest group.speaks.since group.speaks.later line.says.since;
       };
       takes = record {
-        ledger = λ t. writes_on (M.ledger a) (M.ledger p) (M.ledger b) (line.ledger t) (group.speaks.ledger (line.says.trust.tells t));
+        ledger = λ t. syncs_on 1 (M.ledger a) (M.ledger p) (M.ledger b) (line.ledger t) (group.speaks.ledger (line.says.trust.tells t));
         counts = line_counts (M.report a) (M.report p) (M.report b) status line.says.spares came.field-0 0 (differ 0 4 refl) came.ensures.speaks.told line.status;
       };
       tells = λ h. record {
@@ -82,7 +83,7 @@ returns-in-Ok-None g c =
         since = since_on M a p b line.says.trust.honest group.speaks.since group.speaks.later line.says.since;
       };
       takes = record {
-        ledger = λ t. writes_on (M.ledger a) (M.ledger p) (M.ledger b) (line.ledger t) (group.speaks.ledger (line.says.trust.tells t));
+        ledger = λ t. syncs_on 1 (M.ledger a) (M.ledger p) (M.ledger b) (line.ledger t) (group.speaks.ledger (line.says.trust.tells t));
         counts = line_counts (M.report a) (M.report p) (M.report b) status line.says.spares came.field-0 9 (differ 9 4 refl) came.ensures.speaks.told line.status;
       };
       tells = λ h. record {
@@ -117,7 +118,7 @@ returns-in-Err-Fault g c =
         since = since_on M a p b line.says.trust.honest group.speaks.since group.speaks.later line.says.since;
       };
       takes = record {
-        ledger = λ t. writes_on (M.ledger a) (M.ledger p) (M.ledger b) (line.ledger t) (group.speaks.ledger (line.says.trust.tells t));
+        ledger = λ t. syncs_on 1 (M.ledger a) (M.ledger p) (M.ledger b) (line.ledger t) (group.speaks.ledger (line.says.trust.tells t));
         counts = fault_counts (M.report a) (M.report p) (M.report b) status line.says.spares came.why at.speaks.told line.status;
       };
       tells = λ h. record {

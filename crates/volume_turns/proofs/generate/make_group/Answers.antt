@@ -15,7 +15,7 @@ use Rattle.volume_turns.proofs.NumberLaws.{counts_none, counts_on, ended, forced
 use Rattle.volume_turns.proofs.SayLaws.{timed_by}
 use Rattle.volume_turns.proofs.SaidLaws.{keeps_end, keeps_then}
 use Rattle.volume_turns.proofs.ToldLaws.{told_behind}
-use Rattle.volume_turns.proofs.SpeaksLaws.{speaks_ended, speaks_then, speaks_worn}
+use Rattle.volume_turns.proofs.SpeaksLaws.{speaks_ended, speaks_more, speaks_then, speaks_worn}
 use Rattle.volume_turns.proofs.generate.make_group.Goals as goal
 
 pub returns-in-Ok : goal.returns-in-Ok
@@ -89,7 +89,7 @@ returns-else-is_worn_end g c =
     let made = c.in-Err.ensures in
     let now = M.now a in
     record {
-      speaks = speaks_ended end made.speaks;
+      speaks = speaks_more 1 (speaks_ended end made.speaks);
       forces = record {
         image = made.says.image;
         unworn = λ is. other_end end unworn (err_is _ end (Stopped Ends.WornOut) refl is);

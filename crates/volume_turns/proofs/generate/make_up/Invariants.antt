@@ -17,7 +17,7 @@ invariant-loop g l = record {
   layout : (g.V.Files.state l.v).layout ≡ (g.V.Files.state l.fn.v).layout;
   up : (g.V.Files.state l.v).down ≡ None;
   idle : IsDesk (g.V.Files.state l.v) no_desk;
-  speaks : Speaks {T = Unit {0}} g.M.Machine l.fn.m l.m (Ok tt);
+  speaks : Speaks {T = Unit {0}} g.M.Machine 0 l.fn.m l.m (Ok tt);
   quiet : g.M.Machine.honest l.m → (g.M.Machine.now l.m).said ≡ (g.M.Machine.now l.fn.m).said;
   counts : l.tally.count ≡ l.counter;
   numbers : g.M.Machine.honest l.m → GoesUp l.counter (g.V.Files.state l.fn.v) (g.V.Files.state l.v);

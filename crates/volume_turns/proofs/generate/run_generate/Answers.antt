@@ -2,7 +2,7 @@ use Rattle.std.proofs.Common.{ℕ, List, false, Some, subst}
 use Rattle.fsd_runs.specs.declared.request.Request.TheVariants.{Generate}
 use Rattle.scrub.specs.Telling.{AreOfPage}
 use Rattle.volume_turns.specs.Causes.{SaysMade}
-use Rattle.volume_turns.proofs.BehindLaws.{RefusedBy, RunsOver, over_counts, over_image, over_leaves, over_said, over_trust, over_writes, refused_counts, refused_image, refused_last, refused_leaves, refused_of, refused_trust, refused_writes}
+use Rattle.volume_turns.proofs.BehindLaws.{RefusedBy, RunsOver, over_counts, over_image, over_leaves, over_said, over_trust, over_syncs, refused_counts, refused_image, refused_last, refused_leaves, refused_of, refused_trust, refused_syncs}
 use Rattle.volume_turns.proofs.GenerateLaws.{some_turn}
 use Rattle.volume_turns.proofs.NumberLaws.{new_may}
 use Rattle.volume_turns.proofs.SayLaws.{timed_by}
@@ -26,7 +26,7 @@ returns-in-Ok g c =
         last = does.ends.run.last;
       };
       takes = record {
-        ledger = λ t. over_writes x t (does.takes.ledger t);
+        ledger = λ t. over_syncs x t (does.takes.ledger t);
         counts = over_counts x does.takes.counts;
       };
       image = λ h. over_image x false AreOfPage (Some c.args.count) c.generate_on.result h (does.tells h).says (λ nine. new_may c.args.count (g.V.Files.state c.in-Ok.v) e.opens.fresh ((does.tells h).spent nine));
@@ -52,7 +52,7 @@ returns-in-Err g c =
         last = refused_last x;
       };
       takes = record {
-        ledger = λ t. refused_writes x t (line.ledger t);
+        ledger = λ t. refused_syncs x t (line.ledger t);
         counts = refused_counts x;
       };
       image = refused_image x false AreOfPage (Some c.args.count);

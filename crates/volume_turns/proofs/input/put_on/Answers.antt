@@ -43,7 +43,8 @@ returns-in-Ok g c =
         since = since_on M a m b does.ends.trust.honest read.since (λ h. (read.any_moment h).later) does.since;
       };
       takes = record {
-        attaches = λ t. (does.takes.ledger t).attaches ∙ came.attaches (does.ends.trust.tells t);
+        attaches = λ t. (does.takes.ledger t).attaches ∙ (came.takes (does.ends.trust.tells t)).attaches;
+        syncs = λ tells. let none = (came.takes (does.ends.trust.tells tells)).syncs in let few = (does.takes.ledger tells).syncs in omega (arith, none, few);
         counts = counts_taken false (M.report a) (M.report m) (M.report b) status refl read.spares does.takes.counts;
         input = λ five t. absurd (one_not_five (Word.Put c.args.name bytes c.args.keep) status does.ends.status five);
         fails = λ five h. absurd (one_not_five (Word.Put c.args.name bytes c.args.keep) status does.ends.status five);
@@ -91,7 +92,8 @@ returns-in-Err-TooLong g c =
         since = since_on M a m b does.ends.run.trust.honest read.since (λ h. (read.any_moment h).later) does.ends.since;
       };
       takes = record {
-        attaches = λ t. (does.takes.ledger t).attaches ∙ came.attaches (does.ends.run.trust.tells t);
+        attaches = λ t. (does.takes.ledger t).attaches ∙ (came.takes (does.ends.run.trust.tells t)).attaches;
+        syncs = λ tells. let none = (came.takes (does.ends.run.trust.tells tells)).syncs in let few = (does.takes.ledger tells).syncs in omega (arith, none, few);
         counts = counts_taken false (M.report a) (M.report m) (M.report b) status refl read.spares does.takes.counts;
         input = λ five t. inr (came.long refl (does.ends.run.trust.tells t));
         fails = λ five h. does.long five h input (M.report a) (M.report b) (came.long refl (g.met.M.Machine.honest_tells m (does.ends.run.trust.honest h)));
@@ -137,7 +139,8 @@ returns-in-Err-Failed g c =
         since = since_on M a m b line.says.trust.honest read.since (λ h. (read.any_moment h).later) line.says.since;
       };
       takes = record {
-        attaches = λ t. ap (λ (x : Ledger). x.attaches) (line.ledger t) ∙ came.attaches (line.says.trust.tells t);
+        attaches = λ t. ap (λ (x : Ledger). x.attaches) (line.ledger t) ∙ (came.takes (line.says.trust.tells t)).attaches;
+        syncs = λ tells. let none = (came.takes (line.says.trust.tells tells)).syncs in let same = ap (λ (x : Ledger). x.syncs) (line.ledger tells) in omega (arith, none, same);
         counts = counts_untaken true (M.report a) (M.report m) (M.report b) status Ends.Input (λ e. omega (arith, e)) (λ want. absurd want) read.spares line.says.spares line.status;
         input = λ five t. inl rose;
         fails = λ five h. says_input Ends.Input input (M.report a) (M.report b) (M.now m) (M.now b) status rose (line.ends h) five;
@@ -177,7 +180,8 @@ returns-in-Err-Memory g c =
         since = since_on M a m b line.says.trust.honest read.since (λ h. (read.any_moment h).later) line.says.since;
       };
       takes = record {
-        attaches = λ t. ap (λ (x : Ledger). x.attaches) (line.ledger t) ∙ came.attaches (line.says.trust.tells t);
+        attaches = λ t. ap (λ (x : Ledger). x.attaches) (line.ledger t) ∙ (came.takes (line.says.trust.tells t)).attaches;
+        syncs = λ tells. let none = (came.takes (line.says.trust.tells tells)).syncs in let same = ap (λ (x : Ledger). x.syncs) (line.ledger tells) in omega (arith, none, same);
         counts = counts_untaken false (M.report a) (M.report m) (M.report b) status Ends.Memory (λ e. omega (arith, e)) (λ want. refl) read.spares line.says.spares line.status;
         input = λ five t. absurd (not_as 5 7 status (λ e. omega (arith, e)) (λ e. omega (arith, e)) line.status five);
         fails = λ five h. absurd (not_as 5 7 status (λ e. omega (arith, e)) (λ e. omega (arith, e)) line.status five);

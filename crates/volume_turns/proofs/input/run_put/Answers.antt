@@ -1,4 +1,4 @@
-use Rattle.std.proofs.Common.{inr, ◌≤◌, length, ℕ, List, false, None, subst}
+use Rattle.std.proofs.Common.{inr, ◌≤◌, length, ℕ, List, false, None, subst, arith}
 use Rattle.fsd_texts.specs.Script.{max_input}
 use Rattle.fsd_texts.specs.declared.command.Command.TheVariants as Word
 use Rattle.fsd_runs.specs.declared.request.Request.TheVariants.{Put}
@@ -6,7 +6,7 @@ use Rattle.scrub.specs.Telling.{AreOfPage}
 use Rattle.volume_turns.specs.Answering.{SaysOne}
 use Rattle.volume_turns.specs.Whole.{RunsOut}
 use Rattle.volume_turns.proofs.AnsweringLaws.{one_since}
-use Rattle.volume_turns.proofs.BehindLaws.{RefusedBy, RunsOver, over_attaches, over_fails, over_image, over_input, over_leaves, over_said, over_says_input, over_taking, over_trust, refused_alone, refused_image, refused_last, refused_leaves, refused_of, refused_taking, refused_trust, refused_writes}
+use Rattle.volume_turns.proofs.BehindLaws.{RefusedBy, RunsOver, over_attaches, over_fails, over_image, over_input, over_leaves, over_said, over_says_input, over_taking, over_trust, refused_alone, refused_image, refused_last, refused_leaves, refused_of, refused_taking, refused_trust, refused_syncs}
 use Rattle.volume_turns.proofs.PutLaws.{some_put}
 use Rattle.volume_turns.proofs.SayLaws.{timed_by}
 use Rattle.volume_turns.proofs.StatusLaws.{fault_is_put, fault_not_five, fault_not_low}
@@ -30,6 +30,7 @@ returns-in-Ok g c =
       };
       takes = record {
         attaches = λ t. over_attaches x t (does.takes.attaches t);
+        syncs = λ t. let few = does.takes.syncs t in let none = (e.disk.ledger (does.ends.run.trust.tells t)).syncs in omega (arith, few, none);
         counts = over_taking x does.takes.counts;
         input = λ five t. over_fails x t (does.takes.input five t);
         fails = λ five h. over_says_input x (g.met.M.Machine.honest_tells c.put_on.new.m h) (does.takes.fails five h);
@@ -60,7 +61,8 @@ returns-in-Err g c =
         last = refused_last x;
       };
       takes = record {
-        attaches = λ t. (refused_writes x t (line.ledger t)).attaches;
+        attaches = λ t. (refused_syncs x {most = 0} t (line.ledger t)).attaches;
+        syncs = λ t. (refused_syncs x {most = 1} t (line.ledger t)).syncs;
         counts = refused_taking x;
         input = λ five t. absurd (fault_not_five why status (refused_of x) line.status five);
         fails = λ five h. absurd (fault_not_five why status (refused_of x) line.status five);

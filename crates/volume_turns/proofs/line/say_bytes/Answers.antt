@@ -1,4 +1,4 @@
-use Rattle.std.proofs.Common.{refl}
+use Rattle.std.proofs.Common.{inl, refl}
 use Rattle.volume_turns.proofs.SayLaws.{said_moments, says_all, told_said, told_unsaid}
 use Rattle.volume_turns.proofs.line.say_bytes.Goals as goal
 
@@ -13,7 +13,7 @@ returns-in-Ok g c =
       says = record {
         told = told_said (M.report a) (M.report b) c.in-Ok.field-0 tt c.in-Ok.ensures.cause;
         fault = tt;
-        ledger = say.ledger;
+        ledger = λ t. inl (say.ledger t);
         trust = say.trust;
         since = λ h. (say.time h).keeps;
       };
@@ -33,7 +33,7 @@ returns-in-Err g c =
       says = record {
         told = told_unsaid (M.report a) (M.report b) c.in-Err.field-0 c.in-Err.ensures.cause;
         fault = tt;
-        ledger = say.ledger;
+        ledger = λ t. inl (say.ledger t);
         trust = say.trust;
         since = λ h. (say.time h).keeps;
       };

@@ -1,4 +1,4 @@
-use Rattle.std.proofs.Common.{◌∙◌}
+use Rattle.std.proofs.Common.{inl}
 use Rattle.std.proofs.lemmas.Result.{on_ok_weaker}
 use Rattle.sector_disk.proofs.Holding.{trusts_on}
 use Rattle.sector_disk.proofs.ResultLaws.{ok_as}
@@ -7,6 +7,7 @@ use Rattle.volume_turns.proofs.CountLaws.{told_more}
 use Rattle.volume_turns.proofs.LineLaws.{output_ends}
 use Rattle.volume_turns.proofs.RunLaws.{since_on}
 use Rattle.volume_turns.proofs.SayLaws.{forced_moments, forced_synced, says_on, synced_moments, timed_by, told_synced, told_unsynced}
+use Rattle.volume_turns.proofs.SyncLaws.{synced_said}
 use Rattle.volume_turns.proofs.line.say_forced.Goals as goal
 
 pub returns-in-Ok : goal.returns-in-Ok
@@ -24,7 +25,7 @@ returns-in-Ok g c =
       says = record {
         told = told_more (M.report a) (M.report p) (M.report b) tt result (told_synced (M.report a) (M.report p) c.in-Ok.field-0 sync.sectors sync.cause) say.says.told;
         fault = output_ends IsEndOfVolume tt result say.output;
-        ledger = λ t. say.says.ledger t ∙ sync.ledger (say.says.trust.tells t);
+        ledger = λ t. synced_said (M.ledger a) (M.ledger p) (M.ledger b) (sync.counted (say.says.trust.tells t)) (say.says.ledger t);
         trust = trusts_on sync.trust say.says.trust;
         since = since_on M a p b say.says.trust.honest (λ h. (sync.time h).keeps) (λ h. (sync.time h).later) say.says.since;
       };
@@ -48,7 +49,7 @@ returns-in-Err g c =
       says = record {
         told = told_unsynced (M.report a) (M.report b) c.in-Err.failed sync.sectors sync.cause;
         fault = tt;
-        ledger = sync.ledger;
+        ledger = λ t. inl (sync.counted_err t);
         trust = sync.trust;
         since = λ h. (sync.time h).keeps;
       };

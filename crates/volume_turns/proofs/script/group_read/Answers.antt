@@ -23,6 +23,7 @@ use Rattle.volume_turns.proofs.SaidLaws.{broken_by, worn_whole}
 use Rattle.volume_turns.proofs.SayLaws.{timed_by}
 use Rattle.volume_turns.proofs.ScriptGroupLaws.{group_broken, group_stopped, group_worn_out}
 use Rattle.volume_turns.proofs.ScriptLaws.{rose_forced}
+use Rattle.volume_turns.proofs.SyncLaws.{syncs_forced, syncs_unforced}
 use Rattle.volume_turns.proofs.ToldLaws.{told_behind}
 use Rattle.volume_turns.proofs.script.group_read.Goals as goal
 
@@ -65,6 +66,7 @@ returns-in-Ok g c =
             let each = read.says.replies end (ap came_to (passes_on stop end result done.same is)) back t le in
             forced_by says (M.left_since b t) commands (M.honest b) (M.now a) (M.now m) (M.now b) (Ended end) result is
             (each_more says (M.left_since m t) (M.left_since b t) (λ at was. done.speaks.since h t at (omega (arith, le, reached)) was) commands (M.now a).said (M.now m).said each) done.forces.says h;
+        syncs = λ h. syncs_forced g.T.Says.errand.forces (script_in (M.ledger a).input).0 (M.ledger a) (M.ledger m) (M.ledger b) (read.input.syncs (done.speaks.trust.honest h)) (done.speaks.ledger (g.met.M.Machine.honest_tells b h));
       };
       used = λ is h. let worn = passed_on stop WornOut result done.same is in
           absurd (read_not_worn V.state V.holds M g.T.Says.errand (c.args.v, c.new-desk.result) a (c.read_all.new.v, c.read_all.new.desk) m stop (sym worn) (read.reads (done.speaks.trust.tells (g.met.M.Machine.honest_tells b h))));
@@ -104,6 +106,7 @@ returns-then-is_worn_end g c =
         ends = λ end is t. absurd (worn_apart end result done.same is);
         whole = λ is t. absurd (worn_apart Done result done.same is);
         says = λ end is h t le. absurd (worn_apart end result done.same is);
+        syncs = λ h. syncs_forced g.T.Says.errand.forces (script_in (M.ledger a).input).0 (M.ledger a) (M.ledger m) (M.ledger b) (read.input.syncs (done.speaks.trust.honest h)) (done.speaks.ledger (g.met.M.Machine.honest_tells b h));
       };
       used = λ is h. read.used (ap ended (worn_is end worn)) (done.speaks.trust.honest h);
       group = λ h k none stands disk. let back = done.speaks.trust.honest h in
@@ -137,6 +140,7 @@ returns-else-is_worn_end g c =
         ends = λ ended is t. absurd (ok_apart _ (Ended ended) end is refl);
         whole = λ is t. absurd (ok_apart _ (Ended Done) end is refl);
         says = λ ended is h t le. absurd (ok_apart _ (Ended ended) end is refl);
+        syncs = λ h. syncs_unforced g.T.Says.errand.forces (script_in (M.ledger a).input).0 (M.ledger a) (M.ledger m) (read.input.syncs h);
       };
       used = λ is h. absurd (ok_apart _ WornOut end is refl);
       group = λ h k none stands disk. let timed = timed_by M g.met.M.Machine.dated g.met.M.Machine.history g.met.M.Machine.counts_now g.met.M.Machine.only_now in

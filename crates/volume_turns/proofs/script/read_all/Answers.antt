@@ -1,12 +1,13 @@
-use Rattle.std.proofs.Common.{◌+◌, Option, Some, None, Ok, Err, refl, sym, ◌∙◌, ap, subst, arith}
+use Rattle.std.proofs.Common.{◌+◌, [], Option, Some, None, Ok, Err, refl, sym, ◌∙◌, ap, subst, arith}
 use Rattle.std.specs.Prelude.{Result}
 use Rattle.volume_layout.specs.declared.layout.Layout.{Layout}
-use Rattle.fsd_texts.specs.Script.{max_input}
+use Rattle.fsd_texts.specs.Script.{max_input, script_in}
 use Rattle.fsd_texts.specs.declared.end.End.TheVariants.{Done}
 use Rattle.fsd_texts.specs.declared.fault.Fault.TheVariants as Ends
-use Rattle.script_text.specs.Reading.{Reading, fresh}
+use Rattle.script_text.specs.Reading.{Reading, fresh, script_left}
 use Rattle.scrub.specs.Telling.{AreOfPage}
-use Rattle.volume_turns.specs.Script.{DoneSo, GoesOnReading, ReadsScript, RoseBy, WholeRead}
+use Rattle.volume_turns.specs.Each.{SyncsRead}
+use Rattle.volume_turns.specs.Script.{DoneSo, GoesOnReading, ReadsScript, RoseBy, WholeRead, left_by}
 use Rattle.volume_turns.specs.Turns.{IsEndOn}
 use Rattle.volume_turns.specs.declared.script.Stop.{Stop}
 use Rattle.volume_turns.specs.declared.script.Stop.TheVariants.{Ended}
@@ -18,6 +19,7 @@ use Rattle.volume_turns.proofs.NumberLaws.{ended, goes_none, goes_then, may_befo
 use Rattle.volume_turns.proofs.ReadingLaws.{reading_done, reading_ended, reading_keeps, reading_none, reading_then}
 use Rattle.volume_turns.proofs.SaidLaws.{replies_then, whole_then}
 use Rattle.volume_turns.proofs.ScriptLaws.{done_none, done_replies, reads_then, rose_then}
+use Rattle.volume_turns.proofs.SyncLaws.{syncs_read, syncs_still}
 use Rattle.volume_turns.proofs.script.read_all.Goals as goal
 
 abbrev read_so : Stop → Result (Option Stop) Halt
@@ -36,6 +38,8 @@ loop-stop-init g c =
       few = let same = ap (λ (r : Reading). r.given) c.new-reader.ensures in omega (arith, same);
       numbers = λ h. goes_none _ (V.state c.args.v.now) (V.state c.args.v.now) refl;
       going = ap (λ (r : Reading). r.end) c.new-reader.ensures;
+      syncs = λ h. let all = (script_in (M.ledger c.args.m.now).input).0 in
+          subst (λ (r : Reading). SyncsRead g.T.Says.errand.forces 0 all (script_left r (M.ledger c.args.m.now).input).0 (M.ledger c.args.m.now) (M.ledger c.args.m.now)) (sym c.new-reader.ensures) (syncs_still g.T.Says.errand.forces all (M.ledger c.args.m.now));
       so_far = λ t. subst (λ (r : Reading). DoneSo V.state V.holds M g.T.Says.errand fresh r (c.args.v.now, c.args.desk.now) c.args.m.now (c.args.v.now, c.args.desk.now) c.args.m.now) (sym c.new-reader.ensures) (done_none V.state V.holds M g.T.Says.errand fresh (c.args.v.now, c.args.desk.now) c.args.m.now);
     }
 
@@ -78,6 +82,9 @@ returns-in-Ok-Some g c =
         rose = rose_then (M.report a) (M.report m) (M.report b) (Some c.in-Ok-Some.stop) was.input does.input.rose;
         quiet = tt;
         whole = λ is t. does.input.whole (ap read_so (ok_is _ c.in-Ok-Some.stop (Ended Done) refl is)) was.going t;
+        syncs = λ h. let back = does.speaks.trust.honest h in
+            let M = g.M.Machine in
+            syncs_read g.T.Says.errand.forces (script_in (M.ledger c.args.m.now).input).0 (script_left c.loop-stop.reader (M.ledger c.loop-stop.m).input).0 [] (M.ledger c.args.m.now) (M.ledger c.loop-stop.m) (M.ledger c.read_on.new.m) (was.syncs back) (does.input.syncs h);
       };
       used = λ is h. absurd (ok_apart _ c.in-Ok-Some.stop (Stopped Ends.WornOut) refl is);
       reads = reads;
@@ -115,6 +122,9 @@ returns-in-Err g c =
         rose = tt;
         quiet = does.input.quiet ∙ was.input;
         whole = λ is t. absurd (ok_apart _ (Ended Done) c.in-Err.end is refl);
+        syncs = λ h. let back = does.speaks.trust.honest h in
+            let M = g.M.Machine in
+            syncs_read g.T.Says.errand.forces (script_in (M.ledger c.args.m.now).input).0 (script_left c.loop-stop.reader (M.ledger c.loop-stop.m).input).0 [] (M.ledger c.args.m.now) (M.ledger c.loop-stop.m) (M.ledger c.read_on.new.m) (was.syncs back) (does.input.syncs h);
       };
       used = λ is h.
           let few = was.few in
@@ -147,6 +157,9 @@ loop-stop-preserved g c =
       few = goes.2;
       numbers = λ h. goes_then l.reader.given c.read_on.new.reader.given (V.state c.args.v.now) (V.state l.v) (V.state c.read_on.new.v) goes.0 (was.numbers (does.speaks.trust.honest h)) (does.numbers.grows h);
       going = goes.1;
+      syncs = λ h. let back = does.speaks.trust.honest h in
+          let M = g.M.Machine in
+          syncs_read g.T.Says.errand.forces (script_in (M.ledger c.args.m.now).input).0 (script_left c.loop-stop.reader (M.ledger c.loop-stop.m).input).0 (script_left c.read_on.new.reader (M.ledger c.read_on.new.m).input).0 (M.ledger c.args.m.now) (M.ledger c.loop-stop.m) (M.ledger c.read_on.new.m) (was.syncs back) (subst (λ (o : Option Stop). SyncsRead g.T.Says.errand.forces 0 (script_left c.loop-stop.reader (M.ledger c.loop-stop.m).input).0 (left_by (Ok o) (script_left c.read_on.new.reader (M.ledger c.read_on.new.m).input).0) (M.ledger c.loop-stop.m) (M.ledger c.read_on.new.m)) c.in-Ok-None.field-0-is (does.input.syncs h));
       so_far = λ t. reads_then V.state V.holds M g.T.Says.errand fresh l.reader c.read_on.new.reader (c.args.v.now, c.args.desk.now) (l.v, l.desk) (c.read_on.new.v, c.read_on.new.desk) c.args.m.now l.m c.read_on.new.m (Ok None) was.speaks.later step (was.so_far (does.speaks.trust.tells t))
           (subst (λ (o : Option Stop). ReadsScript V.state V.holds M g.T.Says.errand l.reader c.read_on.new.reader (l.v, l.desk) l.m (c.read_on.new.v, c.read_on.new.desk) c.read_on.new.m (Ok o)) c.in-Ok-None.field-0-is (does.reads t));
     }

@@ -1,7 +1,8 @@
 use Rattle.std.proofs.Common.{◌≡◌, ◌≤◌, ◌-◌, None, Ok}
-use Rattle.fsd_texts.specs.Script.{max_input}
-use Rattle.script_text.specs.Reading.{fresh}
+use Rattle.fsd_texts.specs.Script.{max_input, script_in}
+use Rattle.script_text.specs.Reading.{fresh, script_left}
 use Rattle.client_desk.specs.Clients.{IsDesk}
+use Rattle.volume_turns.specs.Each.{SyncsRead}
 use Rattle.volume_turns.specs.Numbers.{GoesUp}
 use Rattle.volume_turns.specs.Script.{DoneSo, SpeaksReading}
 use Rattle.volume_turns.proofs.script.read_all.Given as goal
@@ -19,6 +20,7 @@ invariant-loop-stop g l =
       few : l.reader.given ≤ max_input;
       numbers : M.honest l.m → GoesUp l.reader.given (g.V.Files.state l.fn.v) (g.V.Files.state l.v);
       going : l.reader.end ≡ None;
+      syncs : M.honest l.m → SyncsRead g.T.Says.errand.forces 0 (script_in (M.ledger l.fn.m).input).0 (script_left l.reader (M.ledger l.m).input).0 (M.ledger l.fn.m) (M.ledger l.m);
       so_far : M.tells l.m → DoneSo g.V.Files.state g.V.Files.holds M g.T.Says.errand fresh l.reader (l.fn.v, l.fn.desk) l.fn.m (l.v, l.desk) l.m;
     }
 

@@ -1,4 +1,4 @@
-use Rattle.std.proofs.Common.{◌≡◌, Ok, Err, [], ◌∷◌, Option, Some, None, refl, sym, ◌∙◌, ap, subst, arith}
+use Rattle.std.proofs.Common.{◌≡◌, ℕ, List, Ok, Err, [], ◌∷◌, Option, Some, None, refl, sym, ◌∙◌, ap, subst, arith}
 use Rattle.sector_disk.specs.Machine.{Ledger}
 use Rattle.fsd_texts.specs.declared.fault.Fault.TheVariants as Ends
 use Rattle.volume_turns.specs.declared.turns.Halt.TheVariants.{Fault as Stopped}
@@ -8,6 +8,7 @@ use Rattle.script_text.specs.Reading.{AnswersScript, IsSpelledCommand, NoneWaits
 use Rattle.script_text.specs.Taking.{MovesInput}
 use Rattle.fsd_texts.specs.declared.bad_line.BadLine.{BadLine}
 use Rattle.fsd_texts.specs.declared.end.End.TheVariants.{Bad, Done}
+use Rattle.volume_turns.specs.Each.{SyncsRead}
 use Rattle.volume_turns.specs.Script.{ReadsScript}
 use Rattle.volume_turns.specs.declared.script.Stop.TheVariants.{Ended}
 use Rattle.volume_turns.proofs.ApartLaws.{bad_done, err_is, input_done, long_done, memory_worn, nothing_done, ok_apart}
@@ -18,6 +19,7 @@ use Rattle.volume_turns.proofs.OtherLaws.{not_upgrade_in, read_other, spelled_ot
 use Rattle.volume_turns.proofs.ReadingLaws.{reading_done, reading_ended, reading_of, reading_taken, reading_then, reading_wanted}
 use Rattle.volume_turns.proofs.SaidLaws.{no_replies, replies_then, whole_then}
 use Rattle.volume_turns.proofs.SayLaws.{timed_by}
+use Rattle.volume_turns.proofs.SyncLaws.{syncs_ended, syncs_first, syncs_taken}
 use Rattle.volume_turns.proofs.ToldLaws.{end_of_page_in}
 use Rattle.volume_turns.proofs.script.read_on.Goals as goal
 
@@ -170,6 +172,19 @@ returns-in-Ok-clause-input g c =
       whole = λ is still t. absurd (nothing_done _ is refl);
       on = (at.counts.counted, at.counts.ended, let few = at.counts.few in let most = at.counts.most_while_open at.counts.ended in omega (arith, few, most));
       few = at.counts.most_while_open;
+      syncs = λ h.
+          let M = g.M.Machine in
+          let a = M.ledger c.args.m.now in
+          let m = M.ledger c.next_command.new.m in
+          let b = M.ledger c.step.new.m in
+          let tells = g.met.M.Machine.honest_tells c.step.new.m h in
+          let back = c.step.ensures.speaks.trust.tells tells in
+          let forces = g.T.Says.errand.forces in
+          let before = script_left c.args.reader.now a.input in
+          let now = script_left c.next_command.new.self m.input in
+          let script = subst (λ (o : Option Word). AnswersScript (Ok o) before now) c.in-Ok-Some.field-0-is (c.in-Ok-Some.ensures.script back) in
+          subst (λ (input : List ℕ). SyncsRead forces 0 before.0 (script_left c.next_command.new.self input).0 a b) (sym (c.step.ensures.speaks.ledger tells).input)
+          (syncs_first forces c.in-Ok-Some.c before now a m b script (ap (λ (l : Ledger). l.syncs) (c.next_command.ensures.moves back).left) (c.step.ensures.says.syncs h));
     }
 
 pub returns-in-Ok-Some-clause-input : goal.returns-in-Ok-Some-clause-input
@@ -181,6 +196,18 @@ returns-in-Ok-Some-clause-input g c =
       whole = λ is still t. absurd (ok_apart _ (Some (Ended Done)) c.in-Err.end is refl);
       on = tt;
       few = at.counts.most_while_open;
+      syncs = λ h.
+          let M = g.M.Machine in
+          let a = M.ledger c.args.m.now in
+          let m = M.ledger c.next_command.new.m in
+          let b = M.ledger c.step.new.m in
+          let tells = g.met.M.Machine.honest_tells c.step.new.m h in
+          let back = c.step.ensures.speaks.trust.tells tells in
+          let forces = g.T.Says.errand.forces in
+          let before = script_left c.args.reader.now a.input in
+          let now = script_left c.next_command.new.self m.input in
+          let script = subst (λ (o : Option Word). AnswersScript (Ok o) before now) c.in-Ok-Some.field-0-is (c.in-Ok-Some.ensures.script back) in
+          syncs_ended forces 0 before.0 now.0 a b (syncs_first forces c.in-Ok-Some.c before now a m b script (ap (λ (l : Ledger). l.syncs) (c.next_command.ensures.moves back).left) (c.step.ensures.says.syncs h));
     }
 
 pub returns-in-Ok-None-clause-input : goal.returns-in-Ok-None-clause-input
@@ -198,27 +225,28 @@ returns-in-Ok-None-clause-input g c =
           none_left c.args.reader.now (M.ledger a) (M.ledger m) moves.count still script.0 moves.left;
       on = tt;
       few = at.counts.most_while_open;
+      syncs = λ h. let moves = c.next_command.ensures.moves (g.met.M.Machine.honest_tells c.next_command.new.m h) in syncs_taken g.T.Says.errand.forces (script_left c.args.reader.now (g.M.Machine.ledger c.args.m.now).input).0 (g.M.Machine.ledger c.args.m.now) (g.M.Machine.ledger c.next_command.new.m) moves.count moves.left;
     }
 
 pub returns-in-Err-Bad-clause-input : goal.returns-in-Err-Bad-clause-input
 returns-in-Err-Bad-clause-input g c =
     let at = rw c.in-Err-Bad.field-0-is at c.in-Err-Bad.ensures in
-    record { rose = at.calls.spares.input; quiet = tt; whole = λ is still t. absurd (bad_done _ is _ refl); on = tt; few = at.counts.most_while_open }
+    record { rose = at.calls.spares.input; quiet = tt; whole = λ is still t. absurd (bad_done _ is _ refl); on = tt; few = at.counts.most_while_open; syncs = λ h. let moves = c.next_command.ensures.moves (g.met.M.Machine.honest_tells c.next_command.new.m h) in syncs_taken g.T.Says.errand.forces (script_left c.args.reader.now (g.M.Machine.ledger c.args.m.now).input).0 (g.M.Machine.ledger c.args.m.now) (g.M.Machine.ledger c.next_command.new.m) moves.count moves.left }
 
 pub returns-in-Err-TooLong-clause-input : goal.returns-in-Err-TooLong-clause-input
 returns-in-Err-TooLong-clause-input g c =
     let at = rw c.in-Err-TooLong.field-0-is at c.in-Err-TooLong.ensures in
-    record { rose = at.calls.spares.input; quiet = tt; whole = λ is still t. absurd (long_done _ is refl); on = tt; few = at.counts.most_while_open }
+    record { rose = at.calls.spares.input; quiet = tt; whole = λ is still t. absurd (long_done _ is refl); on = tt; few = at.counts.most_while_open; syncs = λ h. let moves = c.next_command.ensures.moves (g.met.M.Machine.honest_tells c.next_command.new.m h) in syncs_taken g.T.Says.errand.forces (script_left c.args.reader.now (g.M.Machine.ledger c.args.m.now).input).0 (g.M.Machine.ledger c.args.m.now) (g.M.Machine.ledger c.next_command.new.m) moves.count moves.left }
 
 pub returns-in-Err-Input-clause-input : goal.returns-in-Err-Input-clause-input
 returns-in-Err-Input-clause-input g c =
     let at = rw c.in-Err-Input.field-0-is at c.in-Err-Input.ensures in
-    record { rose = at.calls.spares.input; quiet = tt; whole = λ is still t. absurd (input_done _ is refl); on = tt; few = at.counts.most_while_open }
+    record { rose = at.calls.spares.input; quiet = tt; whole = λ is still t. absurd (input_done _ is refl); on = tt; few = at.counts.most_while_open; syncs = λ h. let moves = c.next_command.ensures.moves (g.met.M.Machine.honest_tells c.next_command.new.m h) in syncs_taken g.T.Says.errand.forces (script_left c.args.reader.now (g.M.Machine.ledger c.args.m.now).input).0 (g.M.Machine.ledger c.args.m.now) (g.M.Machine.ledger c.next_command.new.m) moves.count moves.left }
 
 pub returns-clause-input : goal.returns-clause-input
 returns-clause-input g c =
     let at = rw c.in-Err-Memory.field-0-is at c.in-Err-Memory.ensures in
-    record { rose = tt; quiet = at.calls.spares.input; whole = λ is still t. absurd (ok_apart _ (Some (Ended Done)) (Stopped Ends.Memory) is refl); on = tt; few = at.counts.most_while_open }
+    record { rose = tt; quiet = at.calls.spares.input; whole = λ is still t. absurd (ok_apart _ (Some (Ended Done)) (Stopped Ends.Memory) is refl); on = tt; few = at.counts.most_while_open; syncs = λ h. let moves = c.next_command.ensures.moves (g.met.M.Machine.honest_tells c.next_command.new.m h) in syncs_taken g.T.Says.errand.forces (script_left c.args.reader.now (g.M.Machine.ledger c.args.m.now).input).0 (g.M.Machine.ledger c.args.m.now) (g.M.Machine.ledger c.next_command.new.m) moves.count moves.left }
 
 -- ---- what is said
 

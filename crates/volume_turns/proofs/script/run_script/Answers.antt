@@ -1,4 +1,4 @@
-use Rattle.std.proofs.Common.{true, ◌≡◌, ◌+◌, ℕ, List, None, subst, arith}
+use Rattle.std.proofs.Common.{true, ◌≡◌, ◌≤◌, ◌+◌, ℕ, List, None, subst, arith}
 use Rattle.fsd_texts.specs.declared.end.End.TheVariants.{Done}
 use Rattle.fsd_texts.specs.Script.{max_input, script_in}
 use Rattle.fsd_runs.specs.Commands.{reply_text}
@@ -6,12 +6,13 @@ use Rattle.fsd_runs.specs.declared.request.Request.TheVariants.{Script}
 use Rattle.scrub.specs.Telling.{AreOfPage}
 use Rattle.volume_turns.specs.Each.{SaysBadLine, SaysForced}
 use Rattle.volume_turns.specs.Whole.{RunsOut}
-use Rattle.volume_turns.proofs.BehindLaws.{RefusedBy, RunsOver, over_attaches, over_fails, over_image, over_input, over_leaves, over_said, over_says_input, over_taking, over_trust, refused_image, refused_last, refused_leaves, refused_of, refused_taking, refused_trust, refused_writes}
+use Rattle.volume_turns.proofs.BehindLaws.{RefusedBy, RunsOver, over_attaches, over_fails, over_image, over_input, over_leaves, over_said, over_says_input, over_taking, over_trust, refused_image, refused_last, refused_leaves, refused_of, refused_taking, refused_trust, refused_syncs}
 use Rattle.volume_turns.proofs.NumberLaws.{new_may}
 use Rattle.volume_turns.proofs.ScriptRunLaws.{some_forced}
 use Rattle.volume_turns.proofs.SayLaws.{timed_by}
 use Rattle.volume_turns.proofs.StatusLaws.{fault_is_script, fault_not_bad, fault_not_five, fault_not_zero}
 use Rattle.client_desk.proofs.DeskLaws.{desk_fresh}
+use Rattle.volume_turns.specs.Syncs.{most_in_script}
 use Rattle.volume_turns.proofs.script.run_script.Goals as goal
 
 pub script_on-requires-clause-idle : goal.script_on-requires-clause-idle
@@ -33,6 +34,10 @@ returns-in-Ok g c =
       };
       takes = record {
         attaches = λ t. over_attaches x t (does.takes.attaches t);
+        syncs = λ h. let tells = g.met.M.Machine.honest_tells b h in
+            let few = subst (λ (input : List ℕ). (M.ledger b).syncs ≤ (M.ledger m).syncs + most_in_script input) (over_input x tells) (does.takes.syncs h) in
+            let none = (e.disk.ledger (does.ends.run.trust.tells tells)).syncs in
+            omega (arith, few, none);
         counts = over_taking x does.takes.counts;
         input = λ five t. over_fails x t (does.takes.input five t);
         fails = λ five h. over_says_input x (g.met.M.Machine.honest_tells b h) (does.takes.fails five h);
@@ -68,7 +73,8 @@ returns-in-Err g c =
         last = refused_last x;
       };
       takes = record {
-        attaches = λ t. (refused_writes x t (line.ledger t)).attaches;
+        attaches = λ t. (refused_syncs x {most = 0} t (line.ledger t)).attaches;
+        syncs = λ h. (refused_syncs x {most = most_in_script (M.ledger c.args.m.now).input} (g.met.M.Machine.honest_tells c.end_with.new.m h) (line.ledger (g.met.M.Machine.honest_tells c.end_with.new.m h))).syncs;
         counts = refused_taking x;
         input = λ five t. absurd (fault_not_five why status (refused_of x) line.status five);
         fails = λ five h. absurd (fault_not_five why status (refused_of x) line.status five);

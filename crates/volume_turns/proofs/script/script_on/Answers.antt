@@ -12,6 +12,7 @@ use Rattle.volume_turns.proofs.EachLaws.{forced_more, says_bad}
 use Rattle.volume_turns.proofs.RunLaws.{since_on}
 use Rattle.volume_turns.proofs.SayLaws.{timed_by}
 use Rattle.volume_turns.proofs.ScriptLastLaws.{bad_so, done_so, input_fails, input_says, script_call, script_counts_so, script_last, script_runs, script_spent, script_status, status_as}
+use Rattle.volume_turns.proofs.SyncLaws.{syncs_asked}
 use Rattle.volume_turns.proofs.script.script_on.Goals as goal
 
 pub returns-clause-runs : goal.returns-clause-runs
@@ -54,6 +55,10 @@ returns-clause-takes g c =
     let is = λ (five : status ≡ 5). status_as M a x.new.m b status 5 refl x.result last.last five in
     record {
       attaches = λ t. ap (λ (l : Ledger). l.attaches) (last.ledger t) ∙ x.ensures.speaks.attaches (last.trust.tells t);
+      syncs = λ h. let back = last.trust.honest h in
+          let few = syncs_asked g.T.Says.errand.forces (script_in (M.ledger a).input).0 (M.ledger a) (M.ledger x.new.m) c.requires.forces (x.ensures.script.syncs back) in
+          let same = ap (λ (l : Ledger). l.syncs) (last.ledger (g.met.M.Machine.honest_tells b h)) in
+          omega (arith, few, same);
       counts = script_counts_so M a x.new.m b status x.result x.ensures.speaks.heard x.ensures.input.rose x.ensures.input.memory last.last;
       input = λ five t. input_fails M a x.new.m b status (M.ledger a).input x.result x.ensures.speaks.fault x.ensures.input.rose (λ end ended. x.ensures.script.ends end ended (last.trust.tells t)) last.last (is five);
       fails = λ five h.

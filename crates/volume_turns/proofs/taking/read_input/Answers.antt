@@ -5,6 +5,7 @@ use Rattle.sector_disk.proofs.Holding.{wears_none}
 use Rattle.script_text.specs.Taking.{ComesIn}
 use Rattle.volume_turns.specs.declared.taking.InputFault.TheVariants.{TooLong}
 use Rattle.volume_turns.proofs.TakingLaws.{SoFar, nothing_so_far, so_far_more, whole_so_far}
+use Rattle.volume_turns.proofs.SyncLaws.{only_takes_none, only_takes_then}
 use Rattle.volume_turns.proofs.taking.read_input.Goals as goal
 
 pub loop-init : goal.loop-init
@@ -15,7 +16,7 @@ loop-init g c =
     record {
       calls = leaves_none a (λ left h was. g.met.M.Machine.only_now a left h was) Wears (λ h. wears_none (M.now a));
       taken = λ t. subst (λ (b : List ℕ). SoFar (M.ledger a) (M.ledger a) b) (sym c.new-bytes.ensures) (nothing_so_far (M.ledger a));
-      attaches = λ t. refl;
+      takes = λ t. only_takes_none (M.ledger a) (M.ledger a) refl;
       turns = omega arith;
       most = omega (arith, none);
     }
@@ -33,7 +34,7 @@ loop-preserved g c =
     record {
       calls = takes_then was.calls calls;
       taken = λ t. so_far_more (M.ledger c.args.m.now) (M.ledger c.loop.m) (M.ledger c.take_piece.new.m) c.loop.bytes c.take_piece.new.bytes c.in-Ok.count (was.taken (calls.trust.tells t)) (c.in-Ok.ensures.comes t);
-      attaches = λ t. c.take_piece.ensures.attaches t ∙ was.attaches (calls.trust.tells t);
+      takes = λ t. only_takes_then (M.ledger c.args.m.now) (M.ledger c.loop.m) (M.ledger c.take_piece.new.m) (was.takes (calls.trust.tells t)) (c.take_piece.ensures.takes t);
       turns = omega (arith, more, turns, some);
       most = omega (arith, shown, most);
     }
@@ -44,8 +45,8 @@ returns-in-Err-clause-calls g c = takes_then c.loop.invariant.calls c.in-Err.ens
 pub returns-in-Err-clause-long : goal.returns-in-Err-clause-long
 returns-in-Err-clause-long g c is t = absurd (c.in-Err.ensures.some (let same : c.in-Err.fault ≡ TooLong = cc is in same))
 
-pub returns-in-Err-clause-attaches : goal.returns-in-Err-clause-attaches
-returns-in-Err-clause-attaches g c t = c.take_piece.ensures.attaches t ∙ c.loop.invariant.attaches (c.take_piece.ensures.calls.trust.tells t)
+pub returns-in-Err-clause-takes : goal.returns-in-Err-clause-takes
+returns-in-Err-clause-takes g c t = let M = g.M.Machine in only_takes_then (M.ledger c.args.m.now) (M.ledger c.loop.m) (M.ledger c.take_piece.new.m) (c.loop.invariant.takes (c.take_piece.ensures.calls.trust.tells t)) (c.take_piece.ensures.takes t)
 
 pub returns-then-count-eq0-clause-calls : goal.returns-then-count-eq0-clause-calls
 returns-then-count-eq0-clause-calls g c = takes_then c.loop.invariant.calls c.in-Ok.ensures.calls
@@ -72,8 +73,8 @@ returns-then-count-eq0-clause-few g c =
     let none = c.if-count-eq0.true in
     omega (arith, more, most, none)
 
-pub returns-then-count-eq0-clause-attaches : goal.returns-then-count-eq0-clause-attaches
-returns-then-count-eq0-clause-attaches g c t = c.take_piece.ensures.attaches t ∙ c.loop.invariant.attaches (c.take_piece.ensures.calls.trust.tells t)
+pub returns-then-count-eq0-clause-takes : goal.returns-then-count-eq0-clause-takes
+returns-then-count-eq0-clause-takes g c t = let M = g.M.Machine in only_takes_then (M.ledger c.args.m.now) (M.ledger c.loop.m) (M.ledger c.take_piece.new.m) (c.loop.invariant.takes (c.take_piece.ensures.calls.trust.tells t)) (c.take_piece.ensures.takes t)
 
 pub returns-then-as_slice-gt-MOST_INPUT-clause-calls : goal.returns-then-as_slice-gt-MOST_INPUT-clause-calls
 returns-then-as_slice-gt-MOST_INPUT-clause-calls g c = takes_then c.loop.invariant.calls c.in-Ok.ensures.calls
@@ -87,8 +88,8 @@ returns-then-as_slice-gt-MOST_INPUT-clause-long g c is t =
     let many = c.if-as_slice-gt-MOST_INPUT.true in
     omega (arith, within, shown, many)
 
-pub returns-then-as_slice-gt-MOST_INPUT-clause-attaches : goal.returns-then-as_slice-gt-MOST_INPUT-clause-attaches
-returns-then-as_slice-gt-MOST_INPUT-clause-attaches g c t = c.take_piece.ensures.attaches t ∙ c.loop.invariant.attaches (c.take_piece.ensures.calls.trust.tells t)
+pub returns-then-as_slice-gt-MOST_INPUT-clause-takes : goal.returns-then-as_slice-gt-MOST_INPUT-clause-takes
+returns-then-as_slice-gt-MOST_INPUT-clause-takes g c t = let M = g.M.Machine in only_takes_then (M.ledger c.args.m.now) (M.ledger c.loop.m) (M.ledger c.take_piece.new.m) (c.loop.invariant.takes (c.take_piece.ensures.calls.trust.tells t)) (c.take_piece.ensures.takes t)
 
 pub returns-clause-calls : goal.returns-clause-calls
 returns-clause-calls g c = c.loop.invariant.calls

@@ -1,6 +1,6 @@
-use Rattle.std.proofs.Common.{true, false, ap}
-use Rattle.sector_disk.specs.Machine.{Ledger}
+use Rattle.std.proofs.Common.{true, false}
 use Rattle.volume_turns.proofs.SayLaws.{spares_taken, spares_untaken, taken_leaves}
+use Rattle.volume_turns.proofs.SyncLaws.{only_takes_none, only_takes_some}
 use Rattle.volume_turns.proofs.taking.take_piece.Goals as goal
 
 pub returns-in_default : goal.returns-in_default
@@ -13,7 +13,7 @@ returns-in_default g c =
       calls = taken_leaves M a b (λ left h was. g.met.M.Machine.only_now a left h was) take.trust true (spares_untaken (M.report a) (M.report b) c.in_default.field-0 c.in_default.ensures.cause) take.worn take.time;
       comes = tt;
       more = tt;
-      attaches = λ t. ap (λ (l : Ledger). l.attaches) (c.in_default.ensures.left_err t);
+      takes = λ t. only_takes_none (M.ledger a) (M.ledger b) (c.in_default.ensures.left_err t);
       some = λ is. cc is;
     }
 
@@ -27,7 +27,7 @@ returns-then-is_err g c =
       calls = taken_leaves M a b (λ left h was. g.met.M.Machine.only_now a left h was) take.trust false (spares_taken (M.report a) (M.report b) c.in-Ok.count c.in-Ok.ensures.cause) take.worn take.time;
       comes = tt;
       more = tt;
-      attaches = λ t. ap (λ (l : Ledger). l.attaches) (c.in-Ok.ensures.left t);
+      takes = λ t. only_takes_some (M.ledger a) (M.ledger b) c.in-Ok.count (c.in-Ok.ensures.left t);
       some = λ is. cc is;
     }
 
@@ -39,5 +39,5 @@ returns-clause-calls g c =
     let take = c.take.ensures in
     taken_leaves M a b (λ left h was. g.met.M.Machine.only_now a left h was) take.trust false (spares_taken (M.report a) (M.report b) c.in-Ok.count c.in-Ok.ensures.cause) take.worn take.time
 
-pub returns-clause-attaches : goal.returns-clause-attaches
-returns-clause-attaches g c = λ t. ap (λ (l : Ledger). l.attaches) (c.in-Ok.ensures.left t)
+pub returns-clause-takes : goal.returns-clause-takes
+returns-clause-takes g c = λ t. only_takes_some (g.M.Machine.ledger c.args.m.now) (g.M.Machine.ledger c.take.new.self) c.in-Ok.count (c.in-Ok.ensures.left t)

@@ -5,7 +5,8 @@ use Rattle.sector_disk.proofs.Holding.{utters_none}
 use Rattle.sector_disk.proofs.Holding.{wears_none}
 use Rattle.sector_disk.proofs.Moments.{leaves_more, started}
 use Rattle.sector_disk.proofs.ResultLaws.{ok_as}
-use Rattle.volume_turns.specs.Turns.{IsEndOfVolume, SaysAll, Unsaid, UttersBehind}
+use Rattle.volume_turns.specs.Syncs.{SyncsOnce}
+use Rattle.volume_turns.specs.Turns.{IsEndOfVolume, SaysAll, SaysText, Unsaid, UttersBehind}
 use Rattle.volume_turns.proofs.LineLaws.{output_ends}
 use Rattle.volume_turns.proofs.turns.say.Goals as goal
 
@@ -20,7 +21,7 @@ returns-in_default g c =
       says = record {
         told = record { sectors = refl; disk = (refl, refl); input = refl; later = omega arith; output = refl };
         fault = tt;
-        ledger = λ t. refl;
+        ledger = λ t. inl refl;
         trust = record { tells = λ t. t; honest = λ h. h };
         since = λ h t left le was. was;
       };
@@ -43,7 +44,7 @@ returns-then-forces g c =
     let said = c.say_forced.ensures in
     let result = c.say_forced.result in
     record {
-      says = said.says;
+      says = subst (λ (f : Bool). SaysText M f a b result) (sym so) said.says;
       moments = λ h. subst (λ (f : Bool). LeavesOnly M.moment M.left_since a b (UttersBehind f text (M.now a))) (sym so) (subst (λ (x : List ℕ). LeavesOnly M.moment M.left_since a b (UttersBehind true x (M.now a))) is (said.moments h));
       synced = on_ok_weaker result (λ late all h. late h) said.synced;
       said = on_ok_weaker result (λ all h. subst (λ (x : List ℕ). SaysAll x (M.now a) (M.now b)) is (all h)) said.said;
@@ -66,7 +67,7 @@ returns g c =
       says = record {
         told = said.says.told;
         fault = output_ends IsEndOfVolume tt result said.output;
-        ledger = said.says.ledger;
+        ledger = subst (λ (f : Bool). M.tells b → SyncsOnce f (M.ledger a) (M.ledger b)) (sym none) said.says.ledger;
         trust = said.says.trust;
         since = said.says.since;
       };

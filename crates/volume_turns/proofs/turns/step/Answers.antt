@@ -1,4 +1,4 @@
-use Rattle.std.proofs.Common.{◌≡◌, ◌≤◌, List, refl, ap, subst}
+use Rattle.std.proofs.Common.{◌≡◌, ◌≤◌, List, inl, refl, ap, subst}
 use Rattle.std.proofs.lemmas.Result.{on_ok_weaker}
 use Rattle.std.specs.Prelude.{Err, IsTrue}
 use Rattle.fsd_texts.specs.declared.fault.Fault.{Fault}
@@ -15,6 +15,7 @@ use Rattle.volume_turns.proofs.EachLaws.{once_by}
 use Rattle.volume_turns.proofs.SaidLaws.{no_replies, whole_by}
 use Rattle.volume_turns.proofs.SayLaws.{timed_by}
 use Rattle.volume_turns.proofs.SpeaksLaws.{speaks_behind, speaks_failed, speaks_text}
+use Rattle.volume_turns.proofs.SyncLaws.{syncs_answered}
 use Rattle.volume_turns.proofs.ToldLaws.{unsaid_on}
 use Rattle.volume_turns.proofs.WornLaws.{unsaid_unworn}
 use Rattle.volume_turns.proofs.NumberLaws.{worn_may}
@@ -66,12 +67,15 @@ returns-in-Ok-clause-says g c =
       whole_replies = λ h. whole_by says a m b reply (disk.quiet (say.says.trust.honest h)) result
           (says_so (says reply) m b result (on_ok_said (SaysAll (says reply) m b) result h say.said) (on_err_said (Unsaid m b) result h say.unsaid));
       once = once_by says c.args.c.now reply (M.honest c.say.new.m) (M.honest c.answer_in.new.m) a m b say.says.trust.honest disk.quiet (λ h. (c.in-Ok.ensures.answers h).replies) result say.said;
+      syncs = λ h. let back = say.says.trust.honest h in
+          syncs_answered g.T.Says.errand.forces c.args.c.now m.image reply (M.ledger c.args.m.now) (M.ledger c.answer_in.new.m) (M.ledger c.say.new.m) (disk.ledger (g.met.M.Machine.honest_tells c.answer_in.new.m back)) (c.in-Ok.ensures.answers back).replies (say.says.ledger (g.met.M.Machine.honest_tells c.say.new.m h));
     }
 
 pub returns-in-Err-clause-says : goal.returns-in-Err-clause-says
 returns-in-Err-clause-says g c = record {
   whole_replies = λ h. no_replies g.T.Says.errand.says (g.M.Machine.now c.args.m.now).said (g.M.Machine.now c.answer_in.new.m).said (c.in-Err.ensures.disk.quiet h);
   once = tt;
+  syncs = λ h. inl (c.in-Err.ensures.disk.ledger (g.met.M.Machine.honest_tells c.answer_in.new.m h)).syncs;
 }
 
 -- ---- what is told of the image

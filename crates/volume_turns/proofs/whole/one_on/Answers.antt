@@ -7,7 +7,8 @@ use Rattle.volume_turns.proofs.AnsweringLaws.{one_failed, one_replied, one_unhea
 use Rattle.volume_turns.proofs.CauseLaws.{call_says}
 use Rattle.volume_turns.proofs.LastLaws.{ends_fault, fault_not, reply_not, told_place}
 use Rattle.volume_turns.proofs.OneLaws.{one_broken, one_said, one_unsaid}
-use Rattle.volume_turns.proofs.RunLaws.{since_on, writes_on}
+use Rattle.volume_turns.proofs.RunLaws.{since_on}
+use Rattle.volume_turns.proofs.SyncLaws.{syncs_on}
 use Rattle.volume_turns.proofs.SayLaws.{timed_by}
 use Rattle.volume_turns.proofs.StatusLaws.{call_of_volume, counts_said, fault_counts, fault_is_one, from_not, unsaid_counts}
 use Rattle.volume_turns.proofs.WornLaws.{status_worn}
@@ -63,7 +64,7 @@ returns-in-Err-Fault g c =
         last = λ of h. ends_fault (M.report b).fault_place (M.now p) (M.now b) status came.why (told_place came.why (M.report a) (M.report p) (M.report b) does.speaks.told.disk line.says.spares.place) (line.ends h) of;
       };
       takes = record {
-        ledger = λ t. writes_on (M.ledger a) (M.ledger p) (M.ledger b) (line.ledger t) (does.speaks.ledger (line.says.trust.tells t));
+        ledger = λ t. syncs_on 1 (M.ledger a) (M.ledger p) (M.ledger b) (line.ledger t) (does.speaks.ledger (line.says.trust.tells t));
         counts = fault_counts (M.report a) (M.report p) (M.report b) status line.says.spares came.why does.speaks.told line.status;
       };
       tells = λ h. record {

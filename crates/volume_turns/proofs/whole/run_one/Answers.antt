@@ -2,7 +2,7 @@ use Rattle.std.proofs.Common.{false, None, []}
 use Rattle.fsd_runs.specs.declared.request.Request.TheVariants.{One}
 use Rattle.volume_turns.specs.Commands.{MayLose}
 use Rattle.volume_turns.proofs.OneLaws.{some_one}
-use Rattle.volume_turns.proofs.BehindLaws.{RefusedBy, RunsOver, over_counts, over_image, over_leaves, over_one, over_trust, over_writes, refused_counts, refused_image, refused_last, refused_leaves, refused_of, refused_one, refused_trust, refused_writes}
+use Rattle.volume_turns.proofs.BehindLaws.{RefusedBy, RunsOver, over_counts, over_image, over_leaves, over_one, over_trust, over_syncs, refused_counts, refused_image, refused_last, refused_leaves, refused_of, refused_one, refused_trust, refused_syncs}
 use Rattle.volume_turns.proofs.SayLaws.{timed_by}
 use Rattle.volume_turns.proofs.StatusLaws.{fault_is_one}
 use Rattle.volume_turns.proofs.UpgradeLaws.{new_fresh}
@@ -24,7 +24,7 @@ returns-in-Ok g c =
         last = does.ends.last;
       };
       takes = record {
-        ledger = λ t. over_writes x t (does.takes.ledger t);
+        ledger = λ t. over_syncs x t (does.takes.ledger t);
         counts = over_counts x does.takes.counts;
       };
       image = λ h. over_image x false (MayLose c.args.c.now) None c.one_on.result h (λ three. (does.tells h).says three) (λ nine. (does.tells h).spent nine);
@@ -50,7 +50,7 @@ returns-in-Err g c =
         last = refused_last x;
       };
       takes = record {
-        ledger = λ t. refused_writes x t (line.ledger t);
+        ledger = λ t. refused_syncs x t (line.ledger t);
         counts = refused_counts x;
       };
       image = refused_image x false (MayLose c.args.c.now) None;
