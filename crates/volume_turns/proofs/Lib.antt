@@ -12,6 +12,7 @@ pub mod CountLaws
 pub mod DidLaws
 pub mod EachLaws
 pub mod GenerateLaws
+pub mod GetLaws
 pub mod GroupEndLaws
 pub mod GroupLaws
 pub mod HaltLaws

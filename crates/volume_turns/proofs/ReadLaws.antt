@@ -1,10 +1,10 @@
 -- What a whole version's reading says.
-use Rattle.std.proofs.Common.{◌≡◌, inl, inr, ◌-◌, ℕ, Bool, false, List, [], ◌∷◌, ◌++◌, length, take, drop, Option, Some, None, refl, sym, ◌∙◌, ap, subst, arith}
+use Rattle.std.proofs.Common.{◌≡◌, ◌≤◌, inl, inr, ◌-◌, ℕ, Bool, false, List, [], ◌∷◌, ◌++◌, length, take, drop, Option, Some, None, refl, sym, ◌∙◌, ap, subst, arith}
 use Rattle.fsd_log.specs.Scan.{Placed}
 use Rattle.std.specs.Prelude.{IfSome, Result, Ok, Err, min}
 use Rattle.std.specs.List.{AllByRecursion}
 use Rattle.std.specs.FinMap.{find}
-use Rattle.std.proofs.lemmas.List.{append-nil, take_all, drop_all}
+use Rattle.std.proofs.lemmas.List.{append-nil, take-append-le, take_all}
 use Rattle.fsd_bytes.specs.declared.key.Key.{Key}
 use Rattle.fsd_bytes.specs.declared.refusal.Refusal.{Refusal}
 use Rattle.fsd_bytes.specs.declared.refusal.Refusal.TheVariants as Why
@@ -59,7 +59,7 @@ record IsGot (key : Key) (file : Option File) (e : Option Entry) (i j : Image) (
   is : got key damaged file ≡ reply
   finds : IfSome e (λ x. FindsDamage i j (range_sectors x.runs 0 x.length) damaged)
 
-read_got : (key : Key) (file : Option File) (e : Option Entry) (i j : Image) (old new : List ℕ) (n : ℕ) → IfSome e (λ x. x.length ≡ length old) → ReadsRange i j file e 0 old new (Ok n) → IsGot key file e i j (Said.Bytes key new)
+read_got : (key : Key) (file : Option File) (e : Option Entry) (i j : Image) (old new : List ℕ) (n : ℕ) → IfSome e (λ x. x.length ≤ length old) → ReadsRange i j file e 0 old new (Ok n) → IsGot key file e i j (Said.Bytes key (take n new))
 read_got key None None i j old new n len reads = absurd reads
 read_got key None (Some e) i j old new n len reads = absurd reads
 read_got key (Some file) None i j old new n len reads = absurd reads
@@ -67,15 +67,15 @@ read_got key (Some file) (Some e) i j old new n len reads =
     let all : n ≡ e.length = omega (arith, reads.count, len) in
     record {
       damaged = None;
-      is = ap (λ (b : List ℕ). Said.Bytes key b) (sym (whole (all ∙ len) (all ∙ reads.len)));
+      is = ap (λ (b : List ℕ). Said.Bytes key b) (sym (whole (all ∙ reads.len)));
       finds = subst (λ (x : ℕ). AllByRecursion (IsWhole i) (range_sectors e.runs 0 x)) all reads.whole;
     }
   where
-    whole : n ≡ length old → n ≡ length file.bytes → new ≡ file.bytes
-    whole at_old at_file =
+    whole : n ≡ length file.bytes → take n new ≡ file.bytes
+    whole at_file =
         let front : take n (drop 0 file.bytes) ≡ file.bytes = take_all n file.bytes (omega (arith, at_file)) in
-        let back : drop n old ≡ [] = drop_all n old (omega (arith, at_old)) in
-        reads.bytes ∙ ap (λ (x : List ℕ). x ++ drop n old) front ∙ ap (λ (x : List ℕ). file.bytes ++ x) back ∙ append-nil file.bytes
+        let is : new ≡ file.bytes ++ drop n old = reads.bytes ∙ ap (λ (x : List ℕ). x ++ drop n old) front in
+        ap (take n) is ∙ take-append-le n file.bytes (drop n old) (omega (arith, at_file)) ∙ front
 
 -- by the answer that is made of the refusal
 GotBy : (key : Key) (file : Option File) (e : Option Entry) (i j : Image) → Result Reply Fault → Type 0
@@ -84,7 +84,7 @@ GotBy key file e i j (Err (Ends.Device s)) = Unit {0}
 GotBy key file e i j (Err Ends.Memory) = Unit {0}
 GotBy key file e i j (Err fault) = ⊥
 
-got_by : (key : Key) (file : Option File) (e : Option Entry) (i j : Image) (old new : List ℕ) (why : Refusal) → IfSome e (λ x. x.length ≡ length old) → ReadsRange i j file e 0 old new (Err why) → GotBy key file e i j (read_ended_by key why)
+got_by : (key : Key) (file : Option File) (e : Option Entry) (i j : Image) (old new : List ℕ) (why : Refusal) → IfSome e (λ x. x.length ≤ length old) → ReadsRange i j file e 0 old new (Err why) → GotBy key file e i j (read_ended_by key why)
 unfolding GotBy
 got_by key (Some file) (Some e) i j old new (Why.Damaged s) len reads =
     let all : min (e.length - 0) (length old) ≡ e.length = omega (arith, len) in
@@ -112,8 +112,8 @@ module _ {S : Type 0} (state : S → State) (has : S → Mounted → List Placed
     unworn = λ may. cc may;
   }
 
-  pub read_does : (before_buf buf : List ℕ) (n : ℕ) → IfSome entry_at (λ x. x.length ≡ length before_buf) → ReadsRange before.image now.image file_at entry_at 0 before_buf buf (Ok n) → IsAnswered (Word.Get key) (state old) k k before.image now.image (Said.Bytes key buf)
-  read_does before_buf buf n len reads = got_answered (Said.Bytes key buf) (read_got key file_at entry_at before.image now.image before_buf buf n len reads)
+  pub read_does : (before_buf buf : List ℕ) (n : ℕ) → IfSome entry_at (λ x. x.length ≤ length before_buf) → ReadsRange before.image now.image file_at entry_at 0 before_buf buf (Ok n) → IsAnswered (Word.Get key) (state old) k k before.image now.image (Said.Bytes key (take n buf))
+  read_does before_buf buf n len reads = got_answered (Said.Bytes key (take n buf)) (read_got key file_at entry_at before.image now.image before_buf buf n len reads)
 
   -- a result of a read
   does_by : (r : Result Reply Fault) → Stands state has new k now → GotBy key file_at entry_at before.image now.image r → Does state has (Word.Get key) old new k before now r
@@ -123,7 +123,7 @@ module _ {S : Type 0} (state : S → State) (has : S → Mounted → List Placed
   does_by (Err Ends.Memory) stands is = tt
   does_by (Err fault) stands is = absurd is
 
-  pub unread_does : (before_buf buf : List ℕ) (why : Refusal) → IfSome entry_at (λ x. x.length ≡ length before_buf) → Stands state has new k now → ReadsRange before.image now.image file_at entry_at 0 before_buf buf (Err why)
+  pub unread_does : (before_buf buf : List ℕ) (why : Refusal) → IfSome entry_at (λ x. x.length ≤ length before_buf) → Stands state has new k now → ReadsRange before.image now.image file_at entry_at 0 before_buf buf (Err why)
       → Does state has (Word.Get key) old new k before now (read_ended_by key why)
   unread_does before_buf buf why len stands reads = does_by (read_ended_by key why) stands (got_by key file_at entry_at before.image now.image before_buf buf why len reads)
 
@@ -150,9 +150,13 @@ module _ {S : Type 0} (state : S → State) (has : S → Mounted → List Placed
 
 -- ---- what the look-up says
 
-pub found_length : (o : Option Entry) (e : Entry) → LooksUp (found_or o) (found_one (Ok e)) → IfSome o (λ x. x.length ≡ e.length)
+pub found_length : (o : Option Entry) (e : Entry) → LooksUp (found_or o) (found_one (Ok e)) → IfSome o (λ x. x.length ≤ e.length)
 found_length None e looks = tt
-found_length (Some x) e looks = cc looks
+found_length (Some x) e looks = let same : x ≡ e = cc looks in let len = ap (λ (y : Entry). y.length) same in omega (arith, len)
+
+pub some_longer : (o : Option Entry) (n m : ℕ) → n ≤ m → IfSome o (λ x. x.length ≤ n) → IfSome o (λ x. x.length ≤ m)
+some_longer None n m most len = tt
+some_longer (Some e) n m most len = omega (arith, most, len)
 
 none_such : (o : Option Entry) → found_or o ≡ Said.Refused Why.NoSuch → o ≡ None
 none_such None is = refl

@@ -1,6 +1,7 @@
 -- Why a command by itself is answered so, and how much it has written.
-use Rattle.std.proofs.Common.{◌≡◌, ℕ, ◌+◌, List, ◌++◌, [], ◌∷◌, length, Option, Some, None, refl, sym, ◌∙◌, ap, subst, arith, length-append}
-use Rattle.std.specs.Prelude.{IfOk, Result, Ok, Err, option_map}
+use Rattle.std.proofs.Common.{◌≡◌, ℕ, ◌+◌, List, ◌++◌, [], ◌∷◌, length, Option, Some, None, inl, inr, refl, sym, ◌∙◌, ap, subst, arith, length-append}
+use Rattle.std.specs.Prelude.{◌⊎◌, IfOk, IfSome, Result, Ok, Err, option_map}
+use Rattle.std.specs.List.{last_or}
 use Rattle.sector_disk.specs.Image.{IsWorn, Windows, open_damage}
 use Rattle.sector_disk.specs.Machine.{Ledger, Moment}
 use Rattle.sector_disk.proofs.Wear.{worn_refl, worn_trans}
@@ -13,10 +14,12 @@ use Rattle.fsd_table.specs.Table.{Visit}
 use Rattle.fsd_files.specs.declared.reply.Reply.{Reply}
 use Rattle.fsd_files.specs.declared.reply.Reply.TheVariants as Said
 use Rattle.fsd_texts.specs.declared.fault.Fault.{Fault}
+use Rattle.volume_contract.specs.Causes.{IsRead, StoodInCopy}
+use Rattle.volume_contract.specs.Ends.{IsLater}
 use Rattle.volume_contract.specs.State.{Ages, State}
 use Rattle.scrub.specs.Walk.{last_key}
 use Rattle.volume_turns.specs.Listing.{fitting}
-use Rattle.volume_turns.specs.Reasons.{BecauseRead, HasScrubbed, HasWritten, IsUpTo, Showed}
+use Rattle.volume_turns.specs.Reasons.{BecauseRead, ComeBehind, HasScrubbed, HasWritten, IsUpTo, ShowedNext, ShowedOf}
 use Rattle.volume_turns.specs.Steps.{ended_by, read_ended_by}
 use Rattle.volume_turns.proofs.AnsweringLaws.{said_or_fault}
 use Rattle.scrub.proofs.WalkLaws.{last_more}
@@ -76,12 +79,12 @@ ages_then a b c x y = record {
 }
 
 module _ {S : Type 0} (state : S → State) (resident : S → ℕ → Option (List ℕ)) where
-  pub showed_since : (s r t : State) (old mid new : Moment) (Is : Moment → Visit → Type 0) → r ≡ s → Ages old mid → Showed state resident r t mid new Is → Showed state resident s t old new Is
+  pub showed_since : (s r t : State) (old mid new : Moment) (Is : Moment → List (List ℕ) → Type 0) → r ≡ s → Ages old mid → ShowedOf state resident r t mid new Is → ShowedOf state resident s t old new Is
   showed_since s r t old mid new Is same aged x = record { by = x.by; same = x.same ∙ same; from = x.from; aged = ages_then old mid x.from aged x.aged; shows = x.shows }
 
   pub because_since : (key : Key) (s r t : State) (old mid new : Moment) → r ≡ s → Ages old mid → (reply : Reply) → BecauseRead state resident key r t mid new reply → BecauseRead state resident key s t old new reply
   because_since key s r t old mid new same aged (Said.Refused why) x = λ is. showed_since s r t old mid new _ same aged (x is)
-  because_since key s r t old mid new same aged (Said.Bytes k bytes) x = (x.0, x.1, showed_since s r t old mid new _ same aged x.2)
+  because_since key s r t old mid new same aged (Said.Bytes k bytes) x = showed_since s r t old mid new _ same aged x
   because_since key s r t old mid new same aged reply x = tt
 
   -- of a read that was refused
@@ -103,21 +106,60 @@ module _ {S : Type 0} (state : S → State) (resident : S → ℕ → Option (Li
   read_since key s r t old mid new same aged (Ok a) why = because_since key s r t old mid new same aged a why
   read_since key s r t old mid new same aged (Err fault) why = tt
 
+-- ---- what was shown, said at a later moment
+
+module _ {S : Type 0} (state : S → State) (resident : S → ℕ → Option (List ℕ)) (s t : State) (old mid new : Moment) (aged : Ages mid new) where
+  read_later : (by : S) (from : Moment) (page : ℕ) (bytes : List ℕ) → IsRead (state by) t (resident by) from mid page bytes → IsRead (state by) t (resident by) from new page bytes
+  read_later by from page bytes x = record { within = x.within; source = source_later x.source }
+    where
+      source_later : (resident by page ≡ Some bytes) ⊎ StoodInCopy (state by) t from mid page bytes → (resident by page ≡ Some bytes) ⊎ StoodInCopy (state by) t from new page bytes
+      source_later (inl there) = inl there
+      source_later (inr (seen, inl before)) = inr (seen, inl before)
+      source_later (inr (seen, inr behind)) =
+          let worn = worn_trans (open_damage mid.windows) seen mid.image new.image behind.0 aged.image in
+          inr (seen, inr (subst (λ (w : Windows). IsWorn (open_damage w) seen new.image) (sym aged.windows) worn, behind.1))
+
+  each_later : (by : S) (from : Moment) (page : ℕ) (o : Option (List ℕ)) → IfSome o (IsRead (state by) t (resident by) from mid page) → IfSome o (IsRead (state by) t (resident by) from new page)
+  each_later by from page None x = tt
+  each_later by from page (Some bytes) x = read_later by from page bytes x
+
+  pub showed_later : (Is : Moment → List (List ℕ) → Type 0) → ShowedOf state resident s t old mid Is → ShowedOf state resident s t old new Is
+  showed_later Is x = record {
+    by = x.by;
+    same = x.same;
+    from = x.from;
+    aged = x.aged;
+    shows = record { read = x.shows.read; are_read = λ page. each_later x.by x.from page (x.shows.read page) (x.shows.are_read page); is = x.shows.is };
+  }
+
+  pub come_later : (after : Option Key) (entries : List Entry) → ComeBehind state resident s t old mid after entries → ComeBehind state resident s t old new after entries
+  come_later after [] come = tt
+  come_later after (e ∷ entries) come = (come.0, showed_later _ come.1, come_later (Some e.key) entries come.2)
+
 -- ---- a list on its way
 
--- so many were met, the last of them with this key, and those that fit are listed
-pub record HasMet (pattern : Pattern) (count : ℕ) (last : Option Key) (listed : List Entry) : Type 0 where
+-- one more
+pub come_more : {S : Type 0} (state : S → State) (resident : S → ℕ → Option (List ℕ)) (s t : State) (old new : Moment) (o : Option Entry) (met : List Entry) (e : Entry) → ComeBehind state resident s t old new (option_map (λ x. x.key) o) met
+    → IsLater (option_map (λ x. x.key) (last_or o met)) (Some e) → ShowedNext state resident s t old new (option_map (λ x. x.key) (last_or o met)) e → ComeBehind state resident s t old new (option_map (λ x. x.key) o) (met ++ e ∷ [])
+come_more state resident s t old new o [] e come later shown = (later, shown, tt)
+come_more state resident s t old new o (x ∷ met) e come later shown = (come.0, come.1, come_more state resident s t old new (Some x) met e come.2 later shown)
+
+-- so many were met, the last of them with this key, and those that fit are listed; this holds of all that were met
+pub record HasMet (Come : List Entry → Type 0) (pattern : Pattern) (count : ℕ) (last : Option Key) (listed : List Entry) : Type 0 where
   pub met : List Entry
+  pub come : Come met
   pub many : length met ≡ count
   pub ends : last ≡ last_key met
   pub fit : listed ≡ fitting pattern met
 
-pub met_none : (pattern : Pattern) → HasMet pattern 0 None []
-met_none pattern = record { met = []; many = refl; ends = refl; fit = refl }
+pub met_none : (Come : List Entry → Type 0) (pattern : Pattern) → Come [] → HasMet Come pattern 0 None []
+met_none Come pattern come = record { met = []; come = come; many = refl; ends = refl; fit = refl }
 
-pub met_more : (pattern : Pattern) (count : ℕ) (last : Option Key) (listed : List Entry) → HasMet pattern count last listed → (e : Entry) (key : Key) → key ≡ e.key → (now : List Entry) → now ≡ listed ++ fitting pattern (e ∷ []) → HasMet pattern (count + 1) (Some key) now
-met_more pattern count last listed x e key is now put = record {
+pub met_more : (Was Come : List Entry → Type 0) (pattern : Pattern) (count : ℕ) (last : Option Key) (listed : List Entry) (x : HasMet Was pattern count last listed) (e : Entry) → Come (x.met ++ e ∷ []) → (key : Key) → key ≡ e.key → (now : List Entry) → now ≡ listed ++ fitting pattern (e ∷ [])
+    → HasMet Come pattern (count + 1) (Some key) now
+met_more Was Come pattern count last listed x e come key is now put = record {
   met = x.met ++ e ∷ [];
+  come = come;
   many = let sum = length-append x.met (e ∷ []) in let many = x.many in omega (arith, sum, many);
   ends = ap (λ (k : Key). Some k) is ∙ sym (ap (λ (o : Option Entry). option_map (λ y. y.key) o) (last_more x.met None e));
   fit = put ∙ ap (λ (y : List Entry). y ++ fitting pattern (e ∷ [])) x.fit ∙ sym (fitting_more pattern x.met (e ∷ []));

@@ -1,5 +1,6 @@
 -- Why a command by itself is answered so, and how much it has written, whatever the image.
-use Rattle.std.specs.Prelude.{◌≡◌, ◌⊎◌, ⊤, ℕ, ◌+◌, ◌≤◌, List, length, Option, Result, Ok, Err}
+use Rattle.std.specs.Prelude.{◌≡◌, ◌⊎◌, ⊤, ℕ, ◌+◌, ◌≤◌, List, [], ◌∷◌, length, Option, Some, None, Result, Ok, Err}
+use Rattle.std.specs.List.{AllByRecursion}
 use Rattle.fsd_bytes.specs.declared.key.Key.{Key}
 use Rattle.fsd_bytes.specs.declared.pattern.Pattern.{Pattern}
 use Rattle.fsd_bytes.specs.declared.refusal.Refusal.TheVariants as Why
@@ -7,16 +8,19 @@ use Rattle.fsd_formats.specs.declared.entry.Entry.{Entry}
 use Rattle.volume_layout.specs.declared.kind.Kind.TheVariants.{Two, Three}
 use Rattle.volume_layout.specs.Layout.{with_kind}
 use Rattle.fsd_table.specs.Table.{Visit}
+use Rattle.fsd_files.specs.Disk.{Image, Sectors}
+use Rattle.fsd_files.specs.Files.{File}
+use Rattle.fsd_files.specs.Kept.{IsWhole, KeptIn, range_sectors}
 use Rattle.fsd_files.specs.declared.reply.Reply.{Reply}
 use Rattle.fsd_files.specs.declared.reply.Reply.TheVariants as Said
 use Rattle.fsd_texts.specs.declared.call.Call.{Call}
 use Rattle.fsd_texts.specs.declared.call.Call.TheVariants as Calls
 use Rattle.fsd_texts.specs.declared.fault.Fault.{Fault}
 use Rattle.sector_disk.specs.Machine.{Ledger, Moment}
-use Rattle.fsd_sound.specs.Lookups.{LacksKey, LacksLater}
+use Rattle.fsd_sound.specs.Lookups.{HasNext, LacksKey, LacksLater}
 use Rattle.fsd_table.specs.Reached.{ReachesPage, HasEntry}
-use Rattle.volume_contract.specs.Causes.{ShowsOfPages}
-use Rattle.volume_contract.specs.Found.{HasRange}
+use Rattle.volume_contract.specs.Causes.{IsTaken, ShowsOfPages}
+use Rattle.volume_contract.specs.Ends.{IsLater}
 use Rattle.volume_contract.specs.State.{Ages, State, force_len}
 use Rattle.volume_contract.specs.Upgrade.{RootsStand}
 use Rattle.scrub.specs.Looking.{AreDamaged}
@@ -58,28 +62,54 @@ BecauseUpgraded s t new reply = ⊤
 
 -- ---- what the pages that were read show
 
+-- A leaf that has an entry of the key, whose sectors are taken. The bytes are as many as the entry has. All its data sectors
+-- were whole in the image, and the bytes are those of a version that they keep there.
+pub record HasVersion (s : State) (i : Image) (key : Key) (bytes : List ℕ) (v : Visit) : Type 0 where
+  pub entry : Entry
+  pub there : HasEntry entry v
+  pub key_is : entry.key ≡ key
+  pub taken : IsTaken s entry
+  pub many : length bytes ≡ entry.length
+  pub whole : AllByRecursion (IsWhole i) (range_sectors entry.runs 0 entry.length)
+  pub gives : (file : File) (hurt : Sectors) → entry.length ≡ length file.bytes → KeptIn i hurt file.bytes entry.runs → bytes ≡ file.bytes
+
 module _ {S : Type 0} (state : S → State) (resident : S → ℕ → Option (List ℕ)) where
-  -- The pages that a call has read show this of one that is reached. The call began over a volume of this state, at a
-  -- moment to which the disk has only aged since.
-  pub record Showed (s t : State) (old new : Moment) (Is : Moment → Visit → Type 0) : Type 0 where
+  -- The pages that a call has read show this of all pages. The call began over a volume of this state, at a moment to which
+  -- the disk has only aged since.
+  pub record ShowedOf (s t : State) (old new : Moment) (Is : Moment → List (List ℕ) → Type 0) : Type 0 where
     pub by : S
     pub same : state by ≡ s
     pub from : Moment
     pub aged : Ages old from
-    pub shows : ShowsOfPages (state by) t (resident by) from new (ReachesPage (Is from))
+    pub shows : ShowsOfPages (state by) t (resident by) from new (Is from)
 
-  -- So many versions were met in the order of their keys, and those that fit are listed:
+  -- they show it of one that is reached
+  abbrev pub Showed : (s t : State) → (old new : Moment) → (Moment → Visit → Type 0) → Type 0
+  Showed s t old new Is = ShowedOf s t old new (λ from. ReachesPage (Is from))
+
+  -- they show that this entry is the first later one
+  abbrev pub ShowedNext : (s t : State) → (old new : Moment) → Option Key → Entry → Type 0
+  ShowedNext s t old new after e = ShowedOf s t old new (λ from pages. ReachesPage (HasNext after e pages) pages)
+
+  -- the entries come one behind the other: each is of a greater key than the one before it, and was shown as the first later
+  -- one
+  abbrev pub ComeBehind : (s t : State) → (old new : Moment) → Option Key → List Entry → Type 0
+  ComeBehind s t old new after [] = ⊤
+  ComeBehind s t old new after (e ∷ entries) = IsLater after (Some e) × ShowedNext s t old new after e × ComeBehind s t old new (Some e.key) entries
+
+  -- So many versions were met, one behind the other from the first of all on, and those that fit are listed:
   -- as many as the volume counts, or none was behind them.
   pub record ListsAll (pattern : Pattern) (s t : State) (old new : Moment) (listed : List Entry) : Type 0 where
     pub met : List Entry
+    pub come : ComeBehind s t old new None met
     pub fit : listed ≡ fitting pattern met
     pub ends : (length met ≡ s.versions) ⊎ Showed s t old new (λ from. LacksLater (last_key met))
 
-  -- No version of the key is there: a leaf between whose bounds the key stands lacks it. Bytes are those that the entry's
-  -- sectors keep, which were whole.
+  -- No version of the key is there: a leaf between whose bounds the key stands lacks it. Bytes are all those of the entry,
+  -- which its sectors keep.
   abbrev pub BecauseRead : Key → (s t : State) → (old new : Moment) → Reply → Type 0
   BecauseRead key s t old new (Said.Refused why) = why ≡ Why.NoSuch → Showed s t old new (λ from. LacksKey key)
-  BecauseRead key s t old new (Said.Bytes k bytes) = (room : List ℕ) × (n : ℕ) × Showed s t old new (λ from. HasRange t from.image key 0 room bytes n)
+  BecauseRead key s t old new (Said.Bytes k bytes) = Showed s t old new (λ from. HasVersion t from.image key bytes)
   BecauseRead key s t old new reply = ⊤
 
   abbrev pub BecauseListed : Pattern → (s t : State) → (old new : Moment) → Reply → Type 0

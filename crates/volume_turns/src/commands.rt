@@ -1,7 +1,9 @@
 //! One command over a mounted volume.
-ghost use Rattle.std.specs.Prelude.{◌≡◌, ◌≤◌, false, None, IfSome};
+ghost use Rattle.std.specs.Prelude.{◌≡◌, ◌⊎◌, ◌<◌, ◌≤◌, false, None, IfSome, take};
+ghost use Rattle.std.specs.Bool.{MatchBool};
 ghost use Rattle.fsd_formats.specs.NamePage.{max_length, sectors_for};
 ghost use Rattle.fsd_files.specs.Answers.{entry_of};
+ghost use Rattle.fsd_files.specs.declared.reply.Reply.TheVariants as Said;
 ghost use Rattle.fsd_texts.specs.declared.command.Command.TheVariants as Word;
 ghost use Rattle.sector_disk.specs.Calls.{OnlyReads};
 ghost use Rattle.volume_contract.specs.State.{Known, Stands, volume_of};
@@ -12,6 +14,7 @@ use crate::answer::{ended_by, read_ended_by};
 use crate::listing::list;
 use fsd_bytes::{FileName, Key};
 use fsd_files::{Items, Reply};
+use fsd_formats::MOST_LENGTH;
 use fsd_texts::{Command, Fault};
 use scrub::scrub;
 use sector_disk::Machine;
@@ -113,31 +116,47 @@ pub(crate) fn get<M: Machine, V: Files<M>>(
     }
 }
 
-// Reads a version of this length.
+// Reads a version of no more bytes than this. One that is longer than its look-up told is read with room for the longest.
 fn read_whole<M: Machine, V: Files<M>>(
     alloc: Global,
     v: &mut V,
     m: &mut M,
     key: &Key,
-    length: u32,
+    most: u32,
 ) -> Result<Reply, Fault>
     requires room { (V.state v.old).layout.sectors ≤ (M.report m.old).sectors }
     requires up { (V.state v.old).down ≡ None }
     ensures state { V.state v.new ≡ V.state v.old }
     ensures disk { OnlyReads M.Machine (device_by result) m.old m.new }
     ensures tells { TellsAnswer M.Machine V.state V.resident (Word.Get key.now) v.old v.new m.old m.new result }
-    ensures done { M.honest m.new → (k : Known) → Stands V.state V.holds v.old k (M.now m.old) → IfSome (entry_of key.now (volume_of k).entries) (λ e. e.length ≡ length) →
+    ensures done { M.honest m.new → (k : Known) → Stands V.state V.holds v.old k (M.now m.old) → IfSome (entry_of key.now (volume_of k).entries) (λ e. e.length ≤ most) →
         Does V.state V.holds (Word.Get key.now) v.old v.new k (M.now m.old) (M.now m.new) result }
 {
-    let Ok(mut bytes) = vec![in alloc; 0u8; length as usize] else {
+    let Ok(mut bytes) = vec![in alloc; 0u8; most as usize + 1] else {
         return Err(Fault::Memory);
     };
     match v.read(m, key, 0, bytes.as_mut_slice()) {
-        Ok(_) => Ok(Reply::Bytes {
-            key: key.copied(),
-            bytes: Items::from(bytes),
-        }),
+        Ok(count) if are_all(count, most) => Ok(first_bytes(key, bytes, count)),
+        Ok(_) => read_whole(alloc, v, m, key, MOST_LENGTH),
         Err(why) => read_ended_by(key, why),
+    }
+}
+
+// Whether so many bytes are all that a version has, where they were read into room for one more than the most.
+fn are_all(count: u32, most: u32) -> bool
+    ensures { MatchBool result ((count ≤ most) ⊎ (max_length ≤ most)) (most < max_length) }
+{
+    count <= most || most >= MOST_LENGTH
+}
+
+// The reply with so many first ones of these bytes.
+fn first_bytes(key: &Key, mut bytes: Vec<u8>, count: u32) -> Reply
+    ensures { result ≡ Said.Bytes key.now (take count bytes.items) }
+{
+    bytes.truncate(count as usize);
+    Reply::Bytes {
+        key: key.copied(),
+        bytes: Items::from(bytes),
     }
 }
 

@@ -18,6 +18,7 @@ use Rattle.volume_turns.proofs.DidLaws.{goes_same, opens, reads_none, reads_stay
 use Rattle.volume_turns.proofs.NumberLaws.{goes_none}
 use Rattle.volume_turns.proofs.OrderLaws.{entry_down, entry_worn}
 use Rattle.volume_turns.proofs.ReadLaws.{does_earlier, found_length, unfound_does}
+use Rattle.volume_turns.proofs.GetLaws.{tells_then}
 use Rattle.volume_turns.proofs.ReasonLaws.{ages_here, read_since}
 use Rattle.volume_turns.proofs.commands.get.Goals as goal
 
@@ -44,25 +45,7 @@ returns-in-Ok g c =
       opened = opens None s t (goes_same None s t same);
       up = up_so (t.down ≡ None) r (ap (λ (y : State). y.down) same ∙ c.requires.up);
       disk = reads_stay M V.state V.holds a b v (λ h left worn k. g.met.V.Files.wears v k (M.now a) left (g.met.M.Machine.short a h) (record { image = worn.image; windows = worn.windows })) (reads_then e.disk then.disk);
-      tells = record {
-        fault = then.tells.fault;
-        status = then.tells.status;
-        answers = λ h.
-            let does = then.tells.answers h in
-            let first = e.disk.worn (back h) in
-            record {
-              replies = does.replies;
-              rest = worn_first (M.now a) (M.now m) (M.now b) first.windows first.image does.rest;
-              still = same;
-              worn = λ is. subst (λ (y : State). IsTrue (is_worn y)) e.state (does.worn is);
-              numbers = goes_none 1 s t same;
-              told = subst (λ (y : State). IfErr r (IsToldOn AreOfPage y.layout (M.now b).image)) e.state does.told;
-            };
-        written = λ tells. subst (λ (l : Ledger). HasWritten 0 l (M.ledger b) r) (e.disk.ledger (then.disk.trust.tells tells)) (then.tells.written tells);
-        because = λ h.
-            let worn = e.disk.worn (back h) in
-            read_since V.state V.resident key s (V.state x) t (M.now a) (M.now m) (M.now b) e.state (record { image = worn.image; windows = worn.windows }) r (then.tells.because h);
-      };
+      tells = tells_then M V.state V.resident key v x w a m b r e.disk then.disk e.state then.state then.tells;
       done = λ h k stands.
           does_earlier V.state V.holds key v x w k (M.now a) (M.now m) (M.now b) (open_damage (M.now a).windows) (e.disk.worn (back h)).image r
           (then.done h k (e.stands (back h) k stands) (found_length (entry_of key (volume_of k).entries) c.in-Ok.entry (e.done (back h) k stands)));

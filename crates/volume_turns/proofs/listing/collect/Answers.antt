@@ -1,4 +1,4 @@
-use Rattle.std.proofs.Common.{◌≡◌, inl, inr, List, Option, None, refl, sym, ◌∙◌, ap, subst, arith}
+use Rattle.std.proofs.Common.{◌≡◌, inl, inr, List, [], ◌∷◌, ◌++◌, Option, Some, None, refl, sym, ◌∙◌, ap, subst, arith}
 use Rattle.fsd_formats.specs.declared.entry.Entry.{Entry}
 use Rattle.fsd_files.specs.Answers.{entry_after}
 use Rattle.fsd_files.specs.declared.reply.Reply.TheVariants.{Found}
@@ -14,19 +14,28 @@ use Rattle.volume_turns.proofs.ListLaws.{listed_all, listed_counted, listed_more
 use Rattle.scrub.proofs.ReadingLaws.{volume_read_then}
 use Rattle.scrub.proofs.ToldLaws.{next_refuses}
 use Rattle.volume_turns.proofs.ToldLaws.{told_of}
-use Rattle.std.specs.Prelude.{IfNone}
+use Rattle.std.specs.Prelude.{IfNone, IfSome}
 use Rattle.fsd_bytes.specs.declared.key.Key.{Key}
 use Rattle.fsd_sound.specs.Lookups.{LacksLater}
 use Rattle.fsd_table.specs.Reached.{ReachesPage}
 use Rattle.volume_contract.specs.Found.{ShowsReached}
 use Rattle.volume_contract.specs.Causes.{ShowsOfPages}
-use Rattle.volume_turns.proofs.ReasonLaws.{HasMet, met_more, met_none}
+use Rattle.volume_contract.specs.Ends.{IsLater}
+use Rattle.volume_contract.specs.Found.{ShowsReachedNext}
+use Rattle.volume_turns.specs.Reasons.{ComeBehind, ShowedNext}
+use Rattle.volume_turns.proofs.ReasonLaws.{HasMet, come_later, come_more, met_more, met_none}
+use Rattle.volume_turns.proofs.listing.collect.Given as given
 use Rattle.volume_turns.proofs.listing.collect.Goals as goal
+use Rattle.volume_turns.proofs.listing.collect.Goals.{In-Ok}
+
+-- what of those that were met is shown at this moment
+abbrev Came : (g : given.Over) → (v : g.row.V.Denot) → (old now : g.row.M.Denot) → List Entry → Type 0
+Came g v old now met = g.M.Machine.honest now → ComeBehind g.V.Files.state g.V.Files.resident (g.V.Files.state v) (g.V.Files.state v) (g.M.Machine.now old) (g.M.Machine.now now) None met
 
 pub loop-init : goal.loop-init
 loop-init g c = record {
   reads = record { disk = reads_none c.args.m.now (λ left h was. g.met.M.Machine.only_now c.args.m.now left h was); same = refl; stands = λ h k stands. stands };
-  met = subst (λ (x : List Entry). HasMet c.args.pattern.now 0 None x) (sym c.new-entries.ensures.items) (met_none c.args.pattern.now);
+  met = subst (λ (x : List Entry). HasMet (Came g c.args.v.now c.args.m.now c.args.m.now) c.args.pattern.now 0 None x) (sym c.new-entries.ensures.items) (met_none (Came g c.args.v.now c.args.m.now c.args.m.now) c.args.pattern.now (λ h. tt));
   listed = λ h k stands. subst (λ (x : List Entry). AreListed c.args.pattern.now (volume_of k).entries 0 None x) (sym c.new-entries.ensures.items) (listed_none c.args.pattern.now (volume_of k).entries);
 }
 
@@ -38,13 +47,36 @@ next_one-requires g c =
     let room = c.requires.room in
     record { room = omega (arith, same, sectors, room) }
 
+-- the entry that was found is one more
+comes : (g : given.Over) (c : In-Ok g) → Came g c.args.v.now c.args.m.now c.next_one.new.m (c.loop.invariant.met.met ++ c.in-Ok-Some.e ∷ [])
+comes g c h =
+    let V = g.V.Files in
+    let M = g.M.Machine in
+    let s = V.state c.args.v.now in
+    let was = c.loop.invariant in
+    let e = c.in-Ok-Some.ensures in
+    let back = e.reads.disk.trust.honest h in
+    let earlier = was.reads.disk.worn back in
+    let worn = e.reads.disk.worn h in
+    let a = M.now c.args.m.now in
+    let m = M.now c.loop.m in
+    let b = M.now c.next_one.new.m in
+    let met = was.met.met in
+    let later = subst (λ (o : Option Entry). IsLater c.loop.last o) c.in-Ok-Some.field-0-is e.tells.later in
+    let found = subst (λ (o : Option Entry). IfSome o (ShowsReachedNext M (V.resident c.loop.v) (V.state c.loop.v) (V.state c.next_one.new.v) c.loop.m c.next_one.new.m c.loop.last)) c.in-Ok-Some.field-0-is e.tells.found in
+    let shown = subst (λ (t : State). ShowedNext V.state V.resident s t a b c.loop.last c.in-Ok-Some.e) (e.reads.same ∙ was.reads.same)
+    (record { by = c.loop.v; same = was.reads.same; from = m; aged = record { image = earlier.image; windows = earlier.windows }; shows = found h }) in
+    let come = come_later V.state V.resident s s a m b (record { image = worn.image; windows = worn.windows }) None met (was.met.come back) in
+    come_more V.state V.resident s s a b None met c.in-Ok-Some.e come (subst (λ (o : Option Key). IsLater o (Some c.in-Ok-Some.e)) was.met.ends later)
+    (subst (λ (o : Option Key). ShowedNext V.state V.resident s s a b o c.in-Ok-Some.e) was.met.ends shown)
+
 pub loop-preserved : goal.loop-preserved
 loop-preserved g c =
     let was = c.loop.invariant in
     let reads = c.in-Ok-Some.ensures.reads in
     record {
       reads = volume_read_then {fault = None} was.reads reads;
-      met = met_more c.args.pattern.now c.loop.counter c.loop.last c.loop.entries.items was.met c.in-Ok-Some.e c.in-Ok.key c.in-Ok.ensures.key c.take_fitting.new.entries.items c.in-Ok.ensures.ok;
+      met = met_more (Came g c.args.v.now c.args.m.now c.loop.m) (Came g c.args.v.now c.args.m.now c.next_one.new.m) c.args.pattern.now c.loop.counter c.loop.last c.loop.entries.items was.met c.in-Ok-Some.e (comes g c) c.in-Ok.key c.in-Ok.ensures.key c.take_fitting.new.entries.items c.in-Ok.ensures.ok;
       listed = λ h k stands.
           let back = reads.disk.trust.honest h in
           let looks = subst (λ (o : Option Entry). Found (entry_after c.loop.last (volume_of k).entries) ≡ Found o) c.in-Ok-Some.field-0-is (c.in-Ok-Some.ensures.done h k (was.reads.stands back k stands)) in
@@ -108,8 +140,12 @@ returns-in-Ok-None-clause-because g c h =
     let worn = was.reads.disk.worn (c.in-Ok-None.ensures.reads.disk.trust.honest h) in
     let x = was.met in
     let absent = subst (λ (o : Option Entry). IfNone o (ShowsReached g.M.Machine (V.resident c.loop.v) (V.state c.loop.v) (V.state c.next_one.new.v) c.loop.m c.next_one.new.m (LacksLater c.loop.last))) c.in-Ok-None.field-0-is c.in-Ok-None.ensures.tells.absent in
+    let aged = c.in-Ok-None.ensures.reads.disk.worn h in
+    let s = V.state c.args.v.now in
+    let come = come_later V.state V.resident s s (now c.args.m.now) (now c.loop.m) (now c.next_one.new.m) (record { image = aged.image; windows = aged.windows }) None x.met (x.come (c.in-Ok-None.ensures.reads.disk.trust.honest h)) in
     record {
       met = x.met;
+      come = subst (λ (t : State). ComeBehind V.state V.resident s t (now c.args.m.now) (now c.next_one.new.m) None x.met) (sym (c.in-Ok-None.ensures.reads.same ∙ was.reads.same)) come;
       fit = x.fit;
       ends = inr (record {
         by = c.loop.v;
@@ -127,4 +163,8 @@ returns-clause-because g c h =
     let most = c.loop.auto.counter-end in
     let ended = c.loop-test.false in
     let many = x.many in
-    record { met = x.met; fit = x.fit; ends = inl (omega (arith, asked, most, ended, many)) }
+    let V = g.V.Files in
+    let now = g.M.Machine.now in
+    let s = V.state c.args.v.now in
+    let come = subst (λ (t : State). ComeBehind V.state V.resident s t (now c.args.m.now) (now c.loop.m) None x.met) (sym c.loop.invariant.reads.same) (x.come h) in
+    record { met = x.met; come = come; fit = x.fit; ends = inl (omega (arith, asked, most, ended, many)) }
