@@ -73,6 +73,15 @@ idle_first s is = by (option_map Why.Down s.down) (nat_lt 0 (length s.dirty)) is
     by None true is = absurd (cc is)
     by None false is = refl
 
+-- nor has it where no page waits
+pub clean_idle : (s : State) → s.down ≡ None → s.dirty ≡ [] → IsTrue (is_idle (force_steps s))
+clean_idle s up clean = by s.down s.dirty up clean
+  where
+    by : (d : Option ℕ) (dirty : List ℕ) → d ≡ None → dirty ≡ [] → IsTrue (is_idle (Test (option_map Why.Down d) ∷ Force (nat_lt 0 (length dirty)) ∷ []))
+    by None [] none clean = refl
+    by None (x ∷ xs) none clean = absurd (cc clean)
+    by (Some place) dirty none clean = absurd (cc none)
+
 -- ---- what is written
 
 pub wrote_then : (a b c : Ledger) (m n : ℕ) → b ≡ wrote a m → c ≡ wrote b n → c ≡ wrote a (m + n)

@@ -257,9 +257,10 @@ module _ (k after : Known) (forces : IsForcedFrom k after) where
         finds = some_since state has k a b stayed_forced c.image apart found (subst (λ (es : List Entry). PicksSome b.image c.image (all_data es) found) same_entries looking.finds);
       }
 
-      pub scrub_ends : (by : S) → Stands state has by after b → (r : Result Healed Refusal) → EndsLooked state has after new b c found r → EndsScrub state has k new a c found r
-      scrub_ends by stood (Ok healed) looked = record {
+      pub scrub_ends : (by : S) → Stands state has by after b → (k.mounted.dirty ≡ [] → b ≡ a) → (r : Result Healed Refusal) → EndsLooked state has after new b c found r → EndsScrub state has k new a c found r
+      scrub_ends by stood idle (Ok healed) looked = record {
         windows = windows;
+        idle = idle;
         by = by;
         stood = stood;
         after = after;
@@ -272,9 +273,9 @@ module _ (k after : Known) (forces : IsForcedFrom k after) where
         force = subst (λ (x : Layout). Touches (force_writes x) a b) (sym same) first;
         heals = subst (λ (x : Layout). CountsHealed x (volume_of k).entries b healed.sectors) same_layout (subst (λ (es : List Entry). CountsHealed after.mounted.volume.layout es b healed.sectors) same_entries looked.healed_so.counts);
       }
-      scrub_ends by stood (Err (Why.Device s)) looking = inr (scrubbing looking)
-      scrub_ends by stood (Err Why.Memory) looking = scrubbing looking
-      scrub_ends by stood (Err why) ends = absurd ends
+      scrub_ends by stood idle (Err (Why.Device s)) looking = inr (scrubbing looking)
+      scrub_ends by stood idle (Err Why.Memory) looking = scrubbing looking
+      scrub_ends by stood idle (Err why) ends = absurd ends
 
 pub forced_from : (k after : Known) (reply : Reply) → Answers (λ met. force_outcome (volume_of k)) reply [] k after → IsForcedFrom k after
 forced_from k after reply answers = record {

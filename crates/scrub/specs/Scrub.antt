@@ -118,7 +118,7 @@ module _ {S : Type 0} (state : S → State) (has : S → Mounted → List Placed
   EndsLooked k new old now found (Err other) = ⊥
 
   -- The changes are forced. Of the data sectors of all versions those that read damaged are found, and no others; and so
-  -- many of the other sectors are healed, as they stood when the force had ended.
+  -- many of the other sectors are healed, as they stood when the force had ended: as it began, where no page waited.
   pub record IsScrubbed (k : Known) (new : S) (old now : Moment) (found : List (Key × ℕ)) (healed : ℕ) : Type 0 where
     pub after : Known
     pub forces : IsForcedFrom k after
@@ -129,6 +129,7 @@ module _ {S : Type 0} (state : S → State) (has : S → Mounted → List Placed
     pub behind : Moment
     pub force : Touches (force_writes k.mounted.volume.layout) old behind
     pub windows : behind.windows ≡ old.windows
+    pub idle : k.mounted.dirty ≡ [] → behind ≡ old
     pub by : S
     pub stood : Stands state has by after behind
     pub heals : CountsHealed k.mounted.volume.layout (volume_of k).entries behind healed

@@ -118,7 +118,7 @@ module _ {S : Type 0} (state : S → State) (has : S → Mounted → List Placed
   -- a result of a read
   does_by : (r : Result Reply Fault) → Stands state has new k now → GotBy key file_at entry_at before.image now.image r → Does state has (Word.Get key) old new k before now r
   unfolding GotBy
-  does_by (Ok a) stands is = (k, got_answered a is, stands)
+  does_by (Ok a) stands is = (k, got_answered a is, stands, tt)
   does_by (Err (Ends.Device s)) stands is = tt
   does_by (Err Ends.Memory) stands is = tt
   does_by (Err fault) stands is = absurd is
@@ -142,7 +142,7 @@ module _ {S : Type 0} (state : S → State) (has : S → Mounted → List Placed
   }
 
   pub does_earlier : (r : Result Reply Fault) → Does state has (Word.Get key) mid new k at now r → Does state has (Word.Get key) old new k before now r
-  does_earlier (Ok a) does = (does.0, answered_earlier does.0 a does.1, does.2)
+  does_earlier (Ok a) does = (does.0, answered_earlier does.0 a does.1, does.2, tt)
   does_earlier (Err (Ends.Device s)) does = tt
   does_earlier (Err Ends.Memory) does = tt
   does_earlier (Err Ends.WornOut) does = absurd (cc does.0.may)
@@ -180,5 +180,6 @@ unfound_does state has key old new k before now Why.NoSuch stands looks =
         unworn = λ may. cc may;
       },
       stands,
+      tt,
     )
 unfound_does state has key old new k before now why stands looks = absurd looks

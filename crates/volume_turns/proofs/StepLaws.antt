@@ -14,6 +14,7 @@ use Rattle.fsd_files.specs.declared.reply.Reply.TheVariants.{Counts}
 use Rattle.fsd_files.specs.declared.reply.Reply.TheVariants as Said
 use Rattle.fsd_files.specs.Volume.{free_count, pages_free, waiting_count}
 use Rattle.fsd_texts.specs.declared.command.Command.{Command}
+use Rattle.fsd_texts.specs.declared.command.Command.TheVariants as Word
 use Rattle.fsd_runs.specs.Commands.{answer, changes_of, MayFind, may_wear_out}
 use Rattle.sector_disk.specs.Machine.{Moment, Wears}
 use Rattle.fsd_sound.proofs.MountedLaws.{mounted_sound}
@@ -22,7 +23,7 @@ use Rattle.volume_contract.specs.Ends.{EndsRefused, EndsForce, Answers, device_o
 use Rattle.volume_contract.specs.declared.files.Forced.{Forced}
 use Rattle.volume_contract.specs.State.{State, Fits, Known, volume_of, forced_of, Stands, Leaves, is_worn}
 use Rattle.scrub.specs.Walk.{IsFromOutside}
-use Rattle.volume_turns.specs.Steps.{Does, IsAnswered, IsRefusedWorn, Stays, device_by, ended_by, read_ended_by}
+use Rattle.volume_turns.specs.Steps.{Does, Heals, IsAnswered, IsRefusedWorn, Stays, device_by, ended_by, read_ended_by}
 
 -- the fault that is told is the one that was counted
 pub same_device : (why : Refusal) → ((s : ℕ) → why ≡ Why.Down s → ⊥) → device_of why ≡ device_by (ended_by why)
@@ -56,6 +57,10 @@ module _ {S : Type 0} (state : S → State) (has : S → Mounted → List Placed
       unworn = unworn;
     }
 
+    refused_heals : (c : Command) (why : Refusal) → Heals state has c new k before now (Said.Refused why)
+    refused_heals Word.Scrub why = tt
+    refused_heals c why = tt
+
     -- it is refused: the refusal is the reply, or ends the run
     pub refused_does : (why : Refusal) → changes_of command (Said.Refused why) ≡ [] → ((why ≡ Why.WornOut → ⊥) → IsTrue (may_wear_out command) → IsFalse (is_worn (state old))) → (why ≡ Why.WornOut → IsRefusedWorn command (state old))
         → EndsRefused state has outcome k new now why → Does state has command old new k before now (ended_by why)
@@ -65,7 +70,7 @@ module _ {S : Type 0} (state : S → State) (has : S → Mounted → List Placed
     refused_does (Why.Unsound s) none unworn worn ends = ends
     refused_does Why.Memory none unworn worn ends = tt
     refused_does Why.WornOut none unworn worn ends = (worn refl, ends)
-    refused_does why none unworn worn ends = (ends.0, answered_does (Said.Refused why) [] (sym none) ends.0 ends.1 (unworn (λ is. cc is)), ends.2)
+    refused_does why none unworn worn ends = (ends.0, answered_does (Said.Refused why) [] (sym none) ends.0 ends.1 (unworn (λ is. cc is)), ends.2, refused_heals command why)
 
   -- a force that fails leaves the volume down
   pub force_does : (command : Command) (old new : S) (k : Known) (before now : Moment) (outcome : Met → Outcome) (reply : Reply) (why : Refusal) → (let r : Result Forced Refusal = Err why in EndsForce state has outcome reply k new now r) → Does state has command old new k before now (ended_by why)

@@ -136,6 +136,7 @@ module _ {S : Type 0} (state : S → State) (has : S → Mounted → List Placed
     upgraded_known k,
     record { met = met_none; is = answered_by Two two; opened = refl; windows = refl; changes = sym (append-nil k.changes); find = tt; unworn = λ may. cc may },
     stands,
+    tt,
   )
 
   pub stands_done : (why : Refusal) → why ≡ Why.LayoutIs 2 → (let r : Result (Unit {0}) Refusal = Err why in EndsUpgrade state has k w now r) → Stands state has w k now
@@ -146,6 +147,7 @@ module _ {S : Type 0} (state : S → State) (has : S → Mounted → List Placed
     k,
     record { met = met_none; is = answered_by Three three; opened = refl; windows = refl; changes = sym (append-nil k.changes); find = tt; unworn = λ may. cc may },
     stands,
+    tt,
   )
 
 -- ---- one that is done, by itself

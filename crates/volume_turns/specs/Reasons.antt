@@ -21,6 +21,7 @@ use Rattle.fsd_sound.specs.Lookups.{HasNext, LacksKey, LacksLater}
 use Rattle.fsd_table.specs.Reached.{ReachesPage, HasEntry}
 use Rattle.volume_contract.specs.Causes.{IsTaken, ShowsOfPages}
 use Rattle.volume_contract.specs.Ends.{IsLater}
+use Rattle.volume_contract.specs.Healing.{TwinsStand}
 use Rattle.volume_contract.specs.State.{Ages, State, force_len}
 use Rattle.volume_contract.specs.Upgrade.{RootsStand}
 use Rattle.scrub.specs.Looking.{AreDamaged}
@@ -45,11 +46,11 @@ abbrev pub HasScrubbed : State → Ledger → Ledger → Result Reply Fault → 
 HasScrubbed s old new (Ok (Said.Scrubbed found healed)) = WritesHealed (force_len s) old new healed
 HasScrubbed s old new result = ⊤
 
--- ---- what a scrub has found
+-- ---- what a scrub has found and healed
 
--- each is a data sector, which is damaged in the image
+-- each is a data sector, which is damaged in the image; what stands twice is whole, but for what the open window has worn
 abbrev pub BecauseScrubbed : State → Moment → Reply → Type 0
-BecauseScrubbed s new (Said.Scrubbed found healed) = AreDamaged s.layout new.image found
+BecauseScrubbed s new (Said.Scrubbed found healed) = AreDamaged s.layout new.image found × TwinsStand s.layout new
 BecauseScrubbed s new reply = ⊤
 
 -- ---- which layout the volume has

@@ -20,6 +20,7 @@ use Rattle.sector_disk.specs.Damage.{AreLost}
 use Rattle.sector_disk.specs.Machine.{Moment}
 use Rattle.fsd_sound.specs.Mounted.{Mounted}
 use Rattle.fsd_sound.specs.Sound.{IsSound}
+use Rattle.scrub.specs.Scrub.{IsScrubbed}
 use Rattle.scrub.specs.Telling.{IsHomeOfPage}
 use Rattle.volume_contract.specs.State.{State, Known, volume_of, forced_of, Stands, is_worn}
 
@@ -119,8 +120,14 @@ pub record IsRefusedWorn (command : Command) (s : State) : Type 0 where
   pub worn : IsTrue (is_worn s)
 
 module _ {S : Type 0} (state : S → State) (has : S → Mounted → List Placed → Type 0) where
+  -- a scrub has healed as many sectors as it says, and the leaders stand
+  abbrev pub Heals : Command → S → Known → (before now : Moment) → Reply → Type 0
+  Heals Word.Scrub new k before now (Said.Scrubbed found healed) = IsScrubbed state has k new before now found healed
+  -- by default there is nothing to heal
+  Heals command new k before now reply = ⊤
+
   abbrev pub Does : Command → (old new : S) → Known → (before now : Moment) → Result Reply Fault → Type 0
-  Does command old new k before now (Ok a) = (after : Known) × IsAnswered command (state old) k after before.image now.image a × Stands state has new after now
+  Does command old new k before now (Ok a) = (after : Known) × IsAnswered command (state old) k after before.image now.image a × Stands state has new after now × Heals command new k before now a
   Does command old new k before now (Err (Ends.Device s)) = ⊤
   Does command old new k before now (Err Ends.Memory) = ⊤
   Does command old new k before now (Err Ends.WornOut) = IsRefusedWorn command (state old) × Stands state has new k now

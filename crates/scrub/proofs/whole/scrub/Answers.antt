@@ -6,7 +6,7 @@ use Rattle.sector_disk.proofs.CallLaws.{writes_more, writes_then}
 use Rattle.scrub.specs.Looking.{AreDamaged}
 use Rattle.scrub.specs.Scrub.{LeavesScrubbed, TellsScrub}
 use Rattle.volume_contract.specs.State.{State, force_len}
-use Rattle.scrub.proofs.KeptLaws.{idle_first, kept_all, kept_down, up_all, up_behind, up_busy, written_all}
+use Rattle.scrub.proofs.KeptLaws.{clean_idle, idle_first, kept_all, kept_down, up_all, up_behind, up_busy, written_all}
 use Rattle.scrub.proofs.ToldLaws.{told_by}
 use Rattle.scrub.proofs.WholeLaws.{behind_leaves, force_leaves, force_rest, force_within, forced_from, scrub_ends}
 use Rattle.scrub.proofs.whole.scrub.Goals as goal
@@ -36,7 +36,7 @@ returns-in-Ok-clause-done g c = λ h k stands.
     let back = call.disk.trust.honest h in
     let is = force.done back k stands in
     scrub_ends k is.0 (forced_from k is.0 Forced is.1) (V.state c.args.v.now).layout stands.fits.layout (M.now c.args.m.now) (M.now c.force.new.m) (force.disk.windows back) (force.writes.rest back)
-    V.state V.holds c.heal_and_look.new.v (M.now c.heal_and_look.new.m) c.heal_and_look.new.found.items stands.disk.described.apart c.force.new.self is.2 c.heal_and_look.result (call.done h is.0 is.2)
+    V.state V.holds c.heal_and_look.new.v (M.now c.heal_and_look.new.m) c.heal_and_look.new.found.items stands.disk.described.apart c.force.new.self is.2 (λ clean. ap M.now (force.order.idle (clean_idle (V.state c.args.v.now) stands.fits.up (sym stands.fits.dirty ∙ clean)))) c.heal_and_look.result (call.done h is.0 is.2)
 
 pub returns-in-Err-clause-disk : goal.returns-in-Err-clause-disk
 returns-in-Err-clause-disk g c =

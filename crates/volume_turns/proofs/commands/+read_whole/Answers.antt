@@ -49,7 +49,7 @@ returns-in-Ok-read-clause-done g t c h k stands len =
     let lens = some_longer e c.args.most (length c.as_mut_slice.result.now) (omega (arith, size)) len in
     let is = read_does V.state V.holds key c.args.v.now c.read.new.self k (M.now c.args.m.now) (M.now c.read.new.m) c.as_mut_slice.result.now c.read.new.buf count lens (c.in-Ok-read.ensures.done h k stands) in
     let items = take_at c.read.new.buf (drop (length c.read.new.buf) c.in-Ok.bytes.items) c.in-Ok.bytes.len (omega (arith, c.in-Ok.ensures.len, c.as_mut_slice.ensures.len, c.read.auto.buf)) in
-    rw c.first_bytes.ensures (k, subst (λ (b : List ℕ). IsAnswered (Word.Get key) (V.state c.args.v.now) k k (M.now c.args.m.now).image (M.now c.read.new.m).image (Said.Bytes key (take count b))) (sym items) is, c.in-Ok-read.ensures.stands h k stands)
+    rw c.first_bytes.ensures (k, subst (λ (b : List ℕ). IsAnswered (Word.Get key) (V.state c.args.v.now) k k (M.now c.args.m.now).image (M.now c.read.new.m).image (Said.Bytes key (take count b))) (sym items) is, c.in-Ok-read.ensures.stands h k stands, tt)
 
 pub returns-in-Err-clause-disk : goal.returns-in-Err-clause-disk
 returns-in-Err-clause-disk g t c =

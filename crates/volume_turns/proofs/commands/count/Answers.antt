@@ -36,4 +36,5 @@ returns g c =
         unworn = λ may. cc may;
       },
       stands,
+      tt,
     ))

@@ -32,7 +32,7 @@ returns-in-Ok g c =
     (λ h k stands.
     let ends = e.done h k stands in
     let is = answered_does V.state V.holds (Word.Delete key) v w k (M.now a) (M.now b) (λ met. delete_outcome met (volume_of k) key) (λ met. refl) (λ met. tt) (Said.Deleted key) (Change.Delete key ∷ []) refl ends.0 ends.1 (λ may. delete_through s e.order.follows) in
-    (ends.0, subst (λ (x : Key). IsAnswered (Word.Delete key) s k ends.0 (M.now a).image (M.now b).image (Said.Deleted x)) (sym c.copied.ensures) is, ends.2))
+    (ends.0, subst (λ (x : Key). IsAnswered (Word.Delete key) s k ends.0 (M.now a).image (M.now b).image (Said.Deleted x)) (sym c.copied.ensures) is, ends.2, tt))
 
 pub returns-in-Err : goal.returns-in-Err
 returns-in-Err g c =

@@ -27,7 +27,7 @@ returns-in-Ok g c =
     _ c.requires.up e.keeps.state (leaves_stay M V.state V.holds a b v (force_writes s.layout) e.disk) refl (λ h. tt) e.writes.counted (λ h. tt)
     (λ h k stands.
     let ends = e.done h k stands in
-    (ends.0, answered_does V.state V.holds Word.Force v w k (M.now a) (M.now b) (λ met. force_outcome (volume_of k)) (λ met. refl) (λ met. tt) Said.Forced [] refl ends.0 ends.1 (λ may. cc may), ends.2))
+    (ends.0, answered_does V.state V.holds Word.Force v w k (M.now a) (M.now b) (λ met. force_outcome (volume_of k)) (λ met. refl) (λ met. tt) Said.Forced [] refl ends.0 ends.1 (λ may. cc may), ends.2, tt))
 
 pub returns-in-Err : goal.returns-in-Err
 returns-in-Err g c =

@@ -38,7 +38,7 @@ returns-in-Ok g c =
     let unworn : IsFalse (is_worn s) = unworn_through s c.requires.up (size_fault (keep_given keep) (length bytes)) (put_rest s need) (size_never (keep_given keep) (length bytes)) (put_never s need) e.order.follows in
     let is = answered_does V.state V.holds (Word.Put name bytes keep) v w k (M.now a) (M.now b) (λ met. put_outcome met (volume_of k) name bytes keep) (λ met. refl) (λ met. tt)
     (Said.Made c.in-Ok.key need) (Change.Put name keep bytes ∷ []) refl ends.after ends.answers (λ may. unworn) in
-    (ends.after, subst (λ (n : ℕ). IsAnswered (Word.Put name bytes keep) s k ends.after (M.now a).image (M.now b).image (Said.Made c.in-Ok.key n)) (sym c.sectors_of.ensures) is, ends.stands))
+    (ends.after, subst (λ (n : ℕ). IsAnswered (Word.Put name bytes keep) s k ends.after (M.now a).image (M.now b).image (Said.Made c.in-Ok.key n)) (sym c.sectors_of.ensures) is, ends.stands, tt))
 
 pub returns-in-Err : goal.returns-in-Err
 returns-in-Err g c =

@@ -42,7 +42,7 @@ returns-in-Ok g c =
           told = tt;
         };
         written = e.writes.counted;
-        because = λ h. (e.tells h).damaged;
+        because = λ h. ((e.tells h).damaged, (e.tells h).mended);
       };
       done = λ h k stands.
           let ends = e.done h k stands in (
@@ -57,6 +57,7 @@ returns-in-Ok g c =
               unworn = λ may. cc may;
             },
             ends.stands,
+            ends,
           );
     })
 

@@ -35,7 +35,7 @@ returns-in-Ok g c =
     (λ h k stands.
     let ends = e.done h k stands in
     let unworn = unworn_through s c.requires.up (cond large (Some (Why.KeepTooLarge keep)) None) (edit_rest s) (keep_never keep) (edit_never s) e.order.follows in
-    (ends.0, answered_does V.state V.holds (Word.Keep name keep) v w k (M.now a) (M.now b) (λ met. keep_outcome met (volume_of k) name keep) (λ met. refl) (λ met. tt) (Said.Kept c.in-Ok.key keep) (Change.SetKeep name keep ∷ []) refl ends.0 ends.1 (λ may. unworn), ends.2))
+    (ends.0, answered_does V.state V.holds (Word.Keep name keep) v w k (M.now a) (M.now b) (λ met. keep_outcome met (volume_of k) name keep) (λ met. refl) (λ met. tt) (Said.Kept c.in-Ok.key keep) (Change.SetKeep name keep ∷ []) refl ends.0 ends.1 (λ may. unworn), ends.2, tt))
 
 pub returns-in-Err : goal.returns-in-Err
 returns-in-Err g c =

@@ -40,6 +40,7 @@ returns-in-Ok g c =
         unworn = λ may. cc may;
       },
       e.reads.stands h k stands,
+      tt,
     )))
 
 pub returns-in-Err : goal.returns-in-Err
