@@ -6,6 +6,9 @@ use Rattle.std.specs.Map.{keys_of, lookup, remove_entry}
 use Rattle.std.proofs.lemmas.Map.{lookup-remove_entry}
 use Rattle.std.proofs.Math.Seq.{drop-append_seam}
 use Rattle.std.proofs.lemmas.List.{take_all}
+use Rattle.lru.specs.LruCache.{promoted}
+use Rattle.lru.proofs.CallerLemmas.{Contains-promoted}
+use Rattle.lru.proofs.Matching.{none_found, found_none}
 
 module _ {X : Type 0} where
   -- a look-up behind a drop
@@ -21,6 +24,10 @@ module _ {X : Type 0} where
 
   pub out_still : (block other : ℕ) (es : List (ℕ × X)) → IsDistinct nat_eq (keys_of es) → lookup (nat_eq other) es ≡ None → lookup (nat_eq other) (remove_entry (nat_eq block) es) ≡ None
   out_still block other es d h = lookup_dropped block other es d ∙ ap (cond (nat_eq block other) None) h ∙ either_same (nat_eq block other) None
+
+-- where the block that was used last comes to the front, none comes in
+pub out_promoted : {X : Type 0} (block other : ℕ) (es : List (ℕ × X)) → lookup (nat_eq other) es ≡ None → lookup (nat_eq other) (promoted (nat_eq block) es) ≡ None
+out_promoted block other es h = found_none (nat_eq other) (promoted (nat_eq block) es) (λ e c. none_found (nat_eq other) es h e (Contains-promoted (nat_eq block) es e c))
 
 -- the last slot, in its place
 pub slot_behind : (count place : ℕ) (old slot : List ℕ) → length old ≡ 520 * count → length slot ≡ 520 → place ≡ count → take 520 (drop (520 * place) (old ++ slot)) ≡ slot

@@ -28,6 +28,10 @@ module _ {T : Type 0} {old mid : Report} where
         output = uses.output;
       }
 
+  -- the same, at the place that it tells
+  pub disk_fails_there : {new : Report} (place : ℕ) (failed : Failed) → mid ≡ old → failed.place ≡ place → DeviceFault mid new place → UsesDisk mid new → DiskCause {T = T} old new failed.place (Err failed)
+  disk_fails_there {new} place failed e is device uses = subst (λ (p : ℕ). DiskCause {T = T} old new p (Err failed)) (sym is) (disk_fails place failed e is device uses)
+
   pub input_goes : (x : T) → mid ≡ old → InputCause {E = Failed} old mid (Ok x)
   input_goes x e =
       subst (λ (r : Report). InputCause {E = Failed} r mid (Ok x)) e record {

@@ -24,5 +24,16 @@ HasNone a = blocks_of a ≡ []
 abbrev pub AreApart : (first count : ℕ) → Ahead → Type 0
 AreApart first count a = (sector : ℕ) → IsPart first count sector → IsOut (blocks_of a) (sector / 64)
 
+-- no block has a sector that waits
+abbrev pub IsApartFrom : Stretch → Ahead → Type 0
+IsApartFrom waiting a = (sector : ℕ) → HoldsSector waiting sector → IsOut (blocks_of a) (sector / 64)
+
+-- no block has come
+abbrev pub KeepsOut : List (ℕ × Stretch) → List (ℕ × Stretch) → Type 0
+KeepsOut old new = (block : ℕ) → IsOut old block → IsOut new block
+
+abbrev pub AddsNone : Ahead → Ahead → Type 0
+AddsNone old new = KeepsOut (blocks_of old) (blocks_of new)
+
 abbrev pub Gives : Ahead → ℕ → List ℕ → Type 0
 Gives a sector slot = GivesIn (blocks_of a) sector slot

@@ -1,4 +1,5 @@
 pub mod Ahead
 pub mod Disk
 pub mod FileMachine
+pub mod Standing
 pub mod Stretch

@@ -1,6 +1,6 @@
 //! Slots of an image file that were read before they were asked for.
 ghost use Rattle.std.specs.Prelude.{◌≡◌, ℕ, ◌+◌, ◌≤◌, ◌<◌, ◌^◌, false, IsTrue};
-ghost use Rattle.image_file.specs.Ahead.{AreApart, Gives, GivesIn, HasNone, IsOut};
+ghost use Rattle.image_file.specs.Ahead.{AddsNone, AreApart, Gives, GivesIn, HasNone, IsOut, KeepsOut};
 
 use crate::image::ImageFile;
 use crate::slot::SLOT_BYTES;
@@ -55,7 +55,8 @@ impl Ahead {
     /// Drops each block that has one of so many sectors; all of them where these lie in more than two.
     pub(crate) fn drop_at(&mut self, first: u32, count: usize)
         requires { first + count < 2 ^ 32 }
-        ensures { AreApart first count self.new }
+        ensures apart { AreApart first count self.new }
+        ensures others { AddsNone self.old self.new }
     {
         if let Some(blocks) = &mut self.blocks
             && count > 0
@@ -69,6 +70,7 @@ impl Ahead {
     pub(crate) fn give(&mut self, sector: u32, slot: &mut [u8; SLOT_BYTES]) -> bool
         ensures given { IsTrue result → Gives self.old sector slot.new }
         ensures kept { result ≡ false → slot.new ≡ slot.old }
+        ensures others { AddsNone self.old self.new }
     {
         match &mut self.blocks {
             Some(blocks) => give_in(blocks, sector, slot),
@@ -77,14 +79,17 @@ impl Ahead {
     }
 
     /// Reads the slot of a sector of an image with so many, and has the block that it is in, if there is memory and the
-    /// file gives all of it.
+    /// file gives all of it. None may wait for the file meanwhile, so `_waiting` has no slot.
     pub(crate) fn read(
         &mut self,
         image: &ImageFile,
+        _waiting: &Stretch,
         sectors: u32,
         sector: u32,
         slot: &mut [u8; SLOT_BYTES],
-    ) -> io::Result<()> {
+    ) -> io::Result<()>
+        requires { _waiting.now.count ≡ 0 }
+    {
         self.fetch(image, sectors, sector / MOST_SLOTS);
         if self.give(sector, slot) {
             return Ok(());
@@ -106,12 +111,23 @@ impl Ahead {
     }
 }
 
-// The slot of a sector, if a block has it.
+// The slot of a sector, if a block has it, which is the one that was used last then.
 fn give_in(blocks: &mut LruCache<u32, Stretch>, sector: u32, slot: &mut [u8; SLOT_BYTES]) -> bool
     ensures given { IsTrue result → GivesIn blocks.old.entries sector slot.new }
     ensures kept { result ≡ false → slot.new ≡ slot.old }
+    ensures others { KeepsOut blocks.old.entries blocks.new.entries }
 {
-    match blocks.get(&(sector / MOST_SLOTS)) {
+    let given = peek_in(blocks, sector, slot);
+    blocks.promote(&(sector / MOST_SLOTS));
+    given
+}
+
+// The same, and leaves the order of the blocks as it is.
+fn peek_in(blocks: &LruCache<u32, Stretch>, sector: u32, slot: &mut [u8; SLOT_BYTES]) -> bool
+    ensures given { IsTrue result → GivesIn blocks.now.entries sector slot.new }
+    ensures kept { result ≡ false → slot.new ≡ slot.old }
+{
+    match blocks.peek(&(sector / MOST_SLOTS)) {
         Some(block) => block.give(sector, slot),
         None => false,
     }
@@ -120,7 +136,8 @@ fn give_in(blocks: &mut LruCache<u32, Stretch>, sector: u32, slot: &mut [u8; SLO
 // Drops the blocks from one to another, or all.
 fn drop_between(blocks: &mut LruCache<u32, Stretch>, first: u32, last: u32)
     requires { first < 2 ^ 26 }
-    ensures { (block : ℕ) → first ≤ block → block ≤ last → IsOut blocks.new.entries block }
+    ensures out { (block : ℕ) → first ≤ block → block ≤ last → IsOut blocks.new.entries block }
+    ensures others { KeepsOut blocks.old.entries blocks.new.entries }
 {
     if last > first + 1 {
         blocks.clear();
@@ -133,7 +150,7 @@ fn drop_between(blocks: &mut LruCache<u32, Stretch>, first: u32, last: u32)
 // Drops one block.
 fn drop_one(blocks: &mut LruCache<u32, Stretch>, block: u32)
     ensures out { IsOut blocks.new.entries block }
-    ensures others { (other : ℕ) → IsOut blocks.old.entries other → IsOut blocks.new.entries other }
+    ensures others { KeepsOut blocks.old.entries blocks.new.entries }
 {
     if blocks.len() > 0 {
         blocks.pop(&block);

@@ -1,12 +1,15 @@
 //! The image that is attached, with what was read ahead of it, and how what was written to it stands on the disk.
-ghost use Rattle.std.specs.Prelude.{◌≡◌, ℕ};
-ghost use Rattle.image_file.specs.Stretch.{IsBehind};
-ghost use Rattle.image_file.specs.declared.disk.Standing.TheVariants.{Synced, Unsynced};
+ghost use Rattle.std.specs.Prelude.{◌≡◌, ◌≤◌, ℕ};
+ghost use Rattle.image_file.specs.Ahead.{IsApartFrom};
+ghost use Rattle.image_file.specs.Standing.{first_of};
+ghost use Rattle.image_file.specs.Stretch.{HoldsSector, IsBehind};
+ghost use Rattle.image_file.specs.declared.standing.Standing.TheVariants.{Synced, Unsynced};
 
 use crate::ahead::Ahead;
 use crate::image::ImageFile;
 use crate::pending::extend;
 use crate::slot::{SLOT_BYTES, read_slot};
+use crate::standing::Standing;
 use crate::stretch::Stretch;
 use sector_disk::{Attach, SECTOR_BYTES};
 use std::alloc::Global;
@@ -14,18 +17,6 @@ use std::fs::File;
 use std::io;
 use std::io::ErrorKind;
 use std::rt::Files;
-
-/// How what was written stands on the disk.
-#[derive(Drop)]
-pub(crate) enum Standing {
-    /// All of it is there, and none waits in memory.
-    Synced,
-    /// But for one run of adjacent sectors, which was written upwards behind the last sync and ends in front of this
-    /// sector.
-    Unsynced(u64),
-    /// The system did not take some of it, or did not sync it, so some of it may be lost.
-    Broken,
-}
 
 /// The image that is attached, if one is, with what was read ahead of it.
 ///
@@ -40,7 +31,10 @@ pub(crate) struct Disk {
     pending: Stretch,
     ahead: Ahead,
     ghost synced: { standing ≡ Synced → pending.count ≡ 0 },
-    ghost run: { (next : ℕ) → standing ≡ Unsynced next → IsBehind next pending },
+    ghost run: { (first next : ℕ) → standing ≡ Unsynced first next → (first ≤ next) × IsBehind next pending },
+    ghost waiting: { (sector : ℕ) → HoldsSector pending sector → first_of standing ≤ sector },
+    // What is read ahead of the file never has a sector that waits for it.
+    ghost apart: { IsApartFrom pending ahead },
 }
 
 impl Drop for Disk {
@@ -59,8 +53,9 @@ impl Disk {
     ghost use Rattle.std.specs.Prelude.{◌⊎◌, ◌+◌, ◌<◌, ◌≤◌, ◌/◌, ◌^◌, length, IfOk, OnOk, OnErr};
     ghost use Rattle.sector_disk.specs.Machine.{GivesAsked};
     ghost use Rattle.image_file.specs.Ahead.{AreApart, HasNone};
-    ghost use Rattle.image_file.specs.Stretch.{HoldsSector, slot_at};
-    ghost use Rattle.image_file.specs.Disk.{EndsAt, FailsOnDisk, IsBroken, IsGiven, IsOpenAt, IsSyncedDisk, Reads};
+    ghost use Rattle.image_file.specs.Standing.{goes_on, run_from};
+    ghost use Rattle.image_file.specs.Stretch.{HoldsSector, Spells, slot_at};
+    ghost use Rattle.image_file.specs.Disk.{FailsOnDisk, HasCutAt, HasRun, IsBroken, IsGiven, IsOpenAt, IsSyncedDisk, Reads, TellsFirst, first_lost};
 
     /// With no image.
     pub(crate) fn new(alloc: Global) -> Disk
@@ -90,12 +85,16 @@ impl Disk {
         ensures broken { FailsOnDisk self.old self.new result }
     {
         self.ahead.begin();
-        self.sync()?;
+        if self.sync().is_err() {
+            return Err(ErrorKind::Other.into());
+        }
         self.detach();
         self.pending.reserve();
         let (image, sectors) = ImageFile::attach(rt, path, how)?;
         self.image = Some(image);
-        self.bring()?;
+        if self.bring().is_err() {
+            return Err(ErrorKind::Other.into());
+        }
         Ok(sectors)
     }
 
@@ -103,10 +102,10 @@ impl Disk {
     pub(crate) fn read(&mut self, sectors: u32, sector: u32) -> io::Result<Option<[u8; 512]>>
         ensures pending { HoldsSector self.old.pending sector → IfOk result (Reads sector (slot_at self.old.pending sector)) }
         ensures stands { OnOk result (self.new.standing ≡ self.old.standing) }
-        ensures failed { OnErr result (IsBroken self.new ⊎ (self.new.standing ≡ self.old.standing)) }
+        ensures failed { OnErr result (IsBroken (first_lost self.old) self.new ⊎ (self.new.standing ≡ self.old.standing)) }
         ensures broken { FailsOnDisk self.old self.new result }
     {
-        if matches!(self.standing, Standing::Broken) {
+        if matches!(self.standing, Standing::Broken(_)) {
             return Err(ErrorKind::Other.into());
         }
         let mut slot = [0; 520];
@@ -120,52 +119,61 @@ impl Disk {
     pub(crate) fn write(&mut self, sector: u32, bytes: &[u8]) -> io::Result<()>
         requires { sector + length bytes.now / 512 < 2 ^ 32 }
         ensures ahead { AreApart sector (length bytes.now / 512) self.new.ahead }
-        ensures run { OnOk result (EndsAt (sector + length bytes.now / 512) self.new) }
-        ensures cut { OnErr result (IsBroken self.new ⊎ IsOpenAt sector self.new) }
+        ensures there { OnOk result (Spells sector bytes.now (length bytes.now / 512) self.new.pending) }
+        ensures run { OnOk result (HasRun (run_from sector self.old.standing) (sector + length bytes.now / 512) self.new) }
+        ensures cut { OnErr result (HasCutAt sector self.old self.new) }
         ensures broken { FailsOnDisk self.old self.new result }
     {
         self.ahead.drop_at(sector, bytes.len() / SECTOR_BYTES);
-        self.end_others(sector)?;
+        if self.end_others(sector).is_err() {
+            return Err(ErrorKind::Other.into());
+        }
         self.go_on(sector, bytes)
     }
 
     /// A window begins or ends: all that was written is brought to the disk, and nothing that was read before is given
     /// in it.
-    pub(crate) fn turn(&mut self) -> io::Result<()>
+    pub(crate) fn turn(&mut self) -> Result<(), u32>
         ensures ahead { HasNone self.new.ahead }
         ensures synced { OnOk result (IsSyncedDisk self.new) }
-        ensures failed { OnErr result (IsBroken self.new) }
+        ensures told { TellsFirst self.old self.new result }
         ensures broken { FailsOnDisk self.old self.new result }
     {
         self.ahead.drop_all();
         self.sync()
     }
 
-    /// Has the system bring the run to the disk, if there is one.
-    pub(crate) fn sync(&mut self) -> io::Result<()>
+    /// Has the system bring the run to the disk, if there is one. One that fails tells the run's first sector, what waits
+    /// among it, and 0 where there is no run.
+    pub(crate) fn sync(&mut self) -> Result<(), u32>
         ensures ahead { self.new.ahead ≡ self.old.ahead }
         ensures synced { OnOk result (IsSyncedDisk self.new) }
-        ensures failed { OnErr result (IsBroken self.new) }
+        ensures told { TellsFirst self.old self.new result }
         ensures broken { FailsOnDisk self.old self.new result }
     {
         match self.standing {
             Standing::Synced => Ok(()),
-            Standing::Unsynced(_) => self.bring(),
-            Standing::Broken => Err(ErrorKind::Other.into()),
+            Standing::Unsynced { .. } => self.bring(),
+            Standing::Broken(first) => Err(first),
         }
     }
 
     // Has the system bring to the disk all that was written to the image that is attached, what waits among it. Nothing
     // else tells it as brought.
-    fn bring(&mut self) -> io::Result<()>
+    fn bring(&mut self) -> Result<(), u32>
         ensures ahead { self.new.ahead ≡ self.old.ahead }
         ensures synced { OnOk result (IsSyncedDisk self.new) }
-        ensures failed { OnErr result (IsBroken self.new) }
+        ensures told { TellsFirst self.old self.new result }
     {
-        self.hand_over()?;
-        self.standing = Standing::Broken;
-        if let Some(image) = &self.image {
-            image.sync()?;
+        let first = self.standing.first();
+        if self.hand_over().is_err() {
+            return Err(first);
+        }
+        if let Some(image) = &self.image
+            && image.sync().is_err()
+        {
+            self.standing = Standing::Broken(first);
+            return Err(first);
         }
         self.standing = Standing::Synced;
         Ok(())
@@ -176,14 +184,14 @@ impl Disk {
         ensures ahead { self.new.ahead ≡ self.old.ahead }
         ensures given { OnOk result (IsGiven self.new) }
         ensures stands { OnOk result (self.new.standing ≡ self.old.standing) }
-        ensures failed { OnErr result (IsBroken self.new) }
+        ensures failed { OnErr result (IsBroken (first_lost self.old) self.new) }
     {
         let written = match &self.image {
             Some(image) => self.pending.write_out(image),
             None => Err(ErrorKind::NotConnected.into()),
         };
         if written.is_err() {
-            self.standing = Standing::Broken;
+            self.standing = Standing::Broken(self.standing.first());
         }
         written
     }
@@ -205,7 +213,7 @@ impl Disk {
         slot: &mut [u8; SLOT_BYTES],
     ) -> io::Result<()>
         ensures stands { OnOk result (self.new.standing ≡ self.old.standing) }
-        ensures failed { OnErr result (IsBroken self.new ⊎ (self.new.standing ≡ self.old.standing)) }
+        ensures failed { OnErr result (IsBroken (first_lost self.old) self.new ⊎ (self.new.standing ≡ self.old.standing)) }
     {
         if self.ahead.give(sector, slot) {
             return Ok(());
@@ -223,38 +231,43 @@ impl Disk {
         ensures { self.new.standing ≡ self.old.standing }
     {
         match &self.image {
-            Some(image) => self.ahead.read(image, sectors, sector, slot),
+            Some(image) => self.ahead.read(image, &self.pending, sectors, sector, slot),
             None => Err(ErrorKind::NotConnected.into()),
         }
     }
 
     // Brings the run to the disk, unless a write from a sector on goes on with it.
-    fn end_others(&mut self, sector: u32) -> io::Result<()>
+    fn end_others(&mut self, sector: u32) -> Result<(), u32>
         ensures ahead { self.new.ahead ≡ self.old.ahead }
         ensures open { OnOk result (IsOpenAt sector self.new) }
-        ensures failed { OnErr result (IsBroken self.new) }
+        ensures run { OnOk result (run_from sector self.new.standing ≡ run_from sector self.old.standing) }
+        ensures told { TellsFirst self.old self.new result }
         ensures broken { FailsOnDisk self.old self.new result }
     {
-        match self.standing {
-            Standing::Unsynced(next) if next == u64::from(sector) => Ok(()),
-            _ => self.sync(),
+        if self.standing.goes_on(sector) {
+            return Ok(());
         }
+        self.sync()
     }
 
     // Writes the slots of sectors from one on, which begin a run or go on with the one that there is.
     fn go_on(&mut self, sector: u32, bytes: &[u8]) -> io::Result<()>
         requires open { IsOpenAt sector self.old }
         requires fits { sector + length bytes.now / 512 < 2 ^ 32 }
+        requires apart { AreApart sector (length bytes.now / 512) self.old.ahead }
         ensures ahead { self.new.ahead ≡ self.old.ahead }
-        ensures run { OnOk result (EndsAt (sector + length bytes.now / 512) self.new) }
-        ensures cut { OnErr result (IsBroken self.new ⊎ IsOpenAt sector self.new) }
+        ensures there { OnOk result (Spells sector bytes.now (length bytes.now / 512) self.new.pending) }
+        ensures run { OnOk result (HasRun (run_from sector self.old.standing) (sector + length bytes.now / 512) self.new) }
+        ensures cut { OnErr result (IsBroken (run_from sector self.old.standing) self.new ⊎ IsOpenAt sector self.new) }
     {
         let Some(image) = &self.image else {
             return Err(ErrorKind::NotConnected.into());
         };
-        self.standing = Standing::Broken;
+        let first = self.standing.run_from(sector);
+        self.standing = Standing::Broken(first);
         extend(&mut self.pending, image, sector, bytes)?;
-        self.standing = Standing::Unsynced(u64::from(sector) + (bytes.len() / SECTOR_BYTES) as u64);
+        let next = u64::from(sector) + (bytes.len() / SECTOR_BYTES) as u64;
+        self.standing = Standing::Unsynced { first, next };
         Ok(())
     }
 }

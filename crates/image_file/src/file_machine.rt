@@ -141,7 +141,7 @@ impl<R: Files<File = File> + Input + Print + AllocGlobal + Drop> Machine for Fil
     fn sync(&mut self) -> Result<(), Failed> {
         match self.disk.sync() {
             Ok(()) => Ok(()),
-            Err(_) => Err(self.disk_fault(0)),
+            Err(place) => Err(self.disk_fault(place)),
         }
     }
 

@@ -38,9 +38,10 @@
 //! the run, and the system has all that came before.
 //!
 //! **A sync that fails**, or a run that the system does not take. What was written since the last sync may be lost, though
-//! its writes answered Ok. So this call and each later one of the disk fail, each with its own place, which may not be that
-//! of the sector that was not written; and no sector is given, also of those that were read ahead. This lasts until the
-//! machine is dropped.
+//! its writes answered Ok. So this call and each later one of the disk fail, and no sector is given, also of those that were
+//! read ahead. This lasts until the machine is dropped. A `sync` tells the first sector of the run that may be lost, those
+//! that waited among it, and so does each later one. A read or a write tells its own place, which may not be that of the
+//! sector that was not written, and the other calls tell 0.
 //!
 //! **Read ahead.** A read of a sector whose slot is not in memory reads a block of 64 slots at once, and up to 80 such
 //! blocks are kept, of which the least recently used one gives way; reads of these ask the file no more, until one of their
@@ -54,9 +55,10 @@
 //! **What is trusted.** `FileMachine` meets the contract of `Machine` and tells nothing of content: no contract can say
 //! what a file, a disk or a terminal gives or takes. That slots are spelled and read as they should be is proved, and
 //! of the disk inside this crate what it tells as synced: all behind an Ok of `sync`, `healing`, `settle` and `attach`,
-//! with nothing that waits, and all but one run behind a write; that what waits ends where that run does, each slot as it
-//! is spelled, and that a sector that waits is read from there; and that it fails each call once a sync has failed or a run
-//! was not taken. That it tells so only where the system has synced (`Disk::bring`, which an attach calls too) and was
+//! with nothing that waits, and all but one run behind a write; that what waits lies in that run and ends where it does, each
+//! slot of a write in its own place, as it is spelled; that a sector that waits is read from there, and no block that is
+//! read ahead has one; and that it fails each call once a sync has failed or a run was not taken, a sync with the first
+//! sector of that run. That it tells so only where the system has synced (`Disk::bring`, which an attach calls too) and was
 //! given what waits (`Stretch::write_out`), that each slot of a write waits or is given (`pending::extend`), and that each
 //! call of the machine is one of the disk, is seen in the code.
 //!
@@ -81,6 +83,7 @@ mod file_machine;
 mod image;
 mod pending;
 mod slot;
+mod standing;
 mod stretch;
 
 pub use file_machine::FileMachine;

@@ -1,7 +1,7 @@
 //! The slots at the end of a run that wait in memory until the system is given them.
 ghost use Rattle.std.specs.Prelude.{◌≡◌, ◌⊎◌, ◌+◌, ◌<◌, ◌/◌, ◌^◌, length, OnOk};
 ghost use Rattle.fsd_formats.specs.Slot.{slot_of};
-ghost use Rattle.image_file.specs.Stretch.{HoldsSector, IsBehind, slot_at};
+ghost use Rattle.image_file.specs.Stretch.{AddsOnly, HoldsSector, IsBehind, Spells, slot_at};
 
 use crate::image::ImageFile;
 use crate::slot::slot_of;
@@ -19,7 +19,9 @@ pub(crate) fn extend(
 ) -> io::Result<()>
     requires behind { IsBehind first pending.old }
     requires fits { first + length bytes.now / 512 < 2 ^ 32 }
-    ensures { OnOk result (IsBehind (first + length bytes.now / 512) pending.new) }
+    ensures behind { OnOk result (IsBehind (first + length bytes.now / 512) pending.new) }
+    ensures there { OnOk result (Spells first bytes.now (length bytes.now / 512) pending.new) }
+    ensures only { AddsOnly first (length bytes.now / 512) pending.old pending.new }
 {
     for i in 0..bytes.len() / SECTOR_BYTES {
         let from = i * SECTOR_BYTES;
@@ -39,6 +41,7 @@ fn put(pending: &mut Stretch, image: &ImageFile, sector: u32, bytes: &[u8]) -> i
     requires behind { IsBehind sector pending.old }
     ensures behind { OnOk result (IsBehind (sector + 1) pending.new) }
     ensures there { OnOk result ((pending.new.count ≡ 0) ⊎ (HoldsSector pending.new sector × (slot_at pending.new sector ≡ slot_of sector bytes.now))) }
+    ensures only { AddsOnly sector 1 pending.old pending.new }
 {
     let mut whole = [0; 512];
     whole.copy_from_slice(bytes);

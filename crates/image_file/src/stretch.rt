@@ -20,7 +20,7 @@ pub(crate) struct Stretch {
 
 impl Stretch {
     ghost use Rattle.std.specs.Prelude.{◌⊎◌, ◌+◌, ◌<◌, ◌≤◌, ◌++◌, ◌^◌, Some, false, IsTrue, IfSome, OnOk, OnErr};
-    ghost use Rattle.image_file.specs.Stretch.{HoldsSector, IsBehind, slot_at};
+    ghost use Rattle.image_file.specs.Stretch.{AddsOnly, HoldsSector, IsBehind, slot_at};
 
     /// None. It takes no memory.
     pub(crate) fn new(alloc: Global) -> Stretch
@@ -71,9 +71,9 @@ impl Stretch {
     /// Has the slot of the sector behind it as well. Where it has the most, or memory is refused, it stays as it is.
     pub(crate) fn push(&mut self, sector: u32, slot: &[u8; SLOT_BYTES]) -> bool
         requires { IsBehind sector self.old }
-        ensures taken { IsTrue result → (self.new.count ≡ self.old.count + 1) × (self.new.slots.items ≡ self.old.slots.items ++ slot.now) }
         ensures there { IsTrue result → HoldsSector self.new sector × (slot_at self.new sector ≡ slot.now) }
         ensures behind { IsTrue result → IsBehind (sector + 1) self.new }
+        ensures only { AddsOnly sector 1 self.old self.new }
         ensures kept { result ≡ false → (self.new.first ≡ self.old.first) × (self.new.count ≡ self.old.count) }
     {
         let first = self.first_before(sector);
@@ -93,9 +93,10 @@ impl Stretch {
         if self.count == 0 { sector } else { self.first }
     }
 
-    /// Writes its slots to the file, by one call, and has none.
+    /// Writes its slots to the file, by one call, and has none. Where that fails it stays as it is.
     pub(crate) fn write_out(&mut self, image: &ImageFile) -> io::Result<()>
-        ensures { OnOk result (self.new.count ≡ 0) }
+        ensures none { OnOk result (self.new.count ≡ 0) }
+        ensures kept { OnErr result (self.new ≡ self.old) }
     {
         if self.count > 0 {
             image.write(self.first, self.slots.as_slice())?;

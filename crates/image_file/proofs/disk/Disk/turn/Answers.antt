@@ -7,6 +7,6 @@ pub returns : goal.returns
 returns c = record {
   ahead = subst (λ (a : Ahead). HasNone a) (sym c.sync.ensures.ahead) c.drop_all.ensures;
   synced = c.sync.ensures.synced;
-  failed = c.sync.ensures.failed;
+  told = c.sync.ensures.told;
   broken = c.sync.ensures.broken;
 }
