@@ -2,6 +2,7 @@ pub mod DeskLaws
 pub mod SitsLaws
 pub mod SliceLaws
 pub mod PieceLaws
+pub mod CountLaws
 pub mod PlaceLaws
 pub mod CreationLaws
 pub mod FinishLaws

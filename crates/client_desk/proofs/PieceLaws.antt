@@ -17,7 +17,7 @@ use Rattle.fsd_bytes.specs.declared.refusal.Refusal.TheVariants as Why
 use Rattle.sector_disk.specs.Machine.{Moment}
 use Rattle.fsd_log.specs.Scan.{Placed}
 use Rattle.fsd_files.specs.Desk.{Writes}
-use Rattle.fsd_files.specs.Disk.{SectorWorn, Sectors}
+use Rattle.fsd_files.specs.Disk.{SectorWorn, Sectors, Touches}
 use Rattle.sector_disk.specs.Image.{Windows, open_damage, sector_at}
 use Rattle.sector_disk.specs.declared.sector.Sector.{Sector}
 use Rattle.fsd_files.specs.Kept.{data_sectors}
@@ -93,6 +93,10 @@ slices_refuse s w first len why (inr later) = inr (
   ],
 )
 
+-- slices of a creation are of its bytes
+pub touches_data : (w : Creation) (first len : ℕ) (old left : Moment) → Touches (in_slices w.draft.runs first len) old left → Touches (draft_sectors w) old left
+touches_data w first len old left touches = record { size = touches.size; others = λ s out. touches.others s (in_part (slice_count len) first (data_sectors w.draft.runs) s out) }
+
 module _ {S : Type 0} (state : S → State) (has : S → Mounted → List Placed → Type 0) where
   -- ---- what is open is open
 
@@ -112,7 +116,7 @@ module _ {S : Type 0} (state : S → State) (has : S → Mounted → List Placed
         sound = l.sound;
         windows = l.windows;
         said = l.said;
-        touches = record { size = l.touches.size; others = λ s out. l.touches.others s (in_part (slice_count len) first (data_sectors w.draft.runs) s out) };
+        touches = touches_data w first len old left l.touches;
       }
 
   pub leaves_still : (v : S) (client : Client) (may : Sectors) (now : Moment) → LeavesFor state has v client may now now
@@ -280,6 +284,28 @@ unequal a b other = elim (eqb_tells a b) [
   | inr not_same ↦ not_same.0
 ]
 
+-- ---- two calls
+
+module _ (may : Sectors) (a b left : Moment) where
+  worn_then : (p : Bool) (x y z : Sector) → SectorWorn p x y → SectorWorn p y z → SectorWorn p x z
+  worn_then p x y z first (inl same) = subst (λ (u : Sector). SectorWorn p x u) (sym same) first
+  worn_then p x y z first (inr gone) = inr gone
+
+  pub touches_both : b.windows ≡ a.windows → Touches may a b → Touches may b left → Touches may a left
+  touches_both windows first second = record {
+    size = second.size ∙ first.size;
+    others = λ s out. worn_then (open_damage a.windows s) (sector_at a.image s) (sector_at b.image s) (sector_at left.image s)
+        (first.others s out) (subst (λ (w : Windows). SectorWorn (open_damage w s) (sector_at b.image s) (sector_at left.image s)) windows (second.others s out));
+  }
+
+  pub leaves_both : (k : Known) (o : OpenParts) → LeavesSound k may a b → LeavesSound (with_opened k o) may b left → LeavesSound k may a left
+  leaves_both k o first second = record {
+    sound = second.sound;
+    windows = second.windows ∙ first.windows;
+    said = second.said ∙ first.said;
+    touches = touches_both first.windows first.touches second.touches;
+  }
+
 module _ {S : Type 0} (state : S → State) (has : S → Mounted → List Placed → Type 0) where
   -- the disk failed
   pub broken_off : {T : Type 0} (adds : T → List ℕ) (k : Known) (x : Creation) (d : Draft) (name : List ℕ) (len : ℕ) (runs : List Run) (serial : Serial) (before : List ℕ) (first : ℕ) (bytes : List ℕ) (old : List (Option (List ℕ))) (v : S) (now : Moment) (why : Refusal) → d.runs ≡ runs
@@ -289,25 +315,6 @@ module _ {S : Type 0} (state : S → State) (has : S → Mounted → List Placed
     stands = subst (λ (r : List Run). Stands state has v (with_opened k (draft_wrote k.opened r (with_slices old first (slices_if false bytes)))) now) lies ends;
   }
   broken_off adds k x d name len runs serial before first bytes old v now why lies ends = absurd ends
-
-  -- ---- two calls
-
-  module _ (may : Sectors) (a b left : Moment) where
-    worn_then : (p : Bool) (x y z : Sector) → SectorWorn p x y → SectorWorn p y z → SectorWorn p x z
-    worn_then p x y z first (inl same) = subst (λ (u : Sector). SectorWorn p x u) (sym same) first
-    worn_then p x y z first (inr gone) = inr gone
-
-    pub leaves_both : (k : Known) (o : OpenParts) → LeavesSound k may a b → LeavesSound (with_opened k o) may b left → LeavesSound k may a left
-    leaves_both k o first second = record {
-      sound = second.sound;
-      windows = second.windows ∙ first.windows;
-      said = second.said ∙ first.said;
-      touches = record {
-        size = second.touches.size ∙ first.touches.size;
-        others = λ s out. worn_then (open_damage a.windows s) (sector_at a.image s) (sector_at b.image s) (sector_at left.image s)
-            (first.touches.others s out) (subst (λ (w : Windows). SectorWorn (open_damage w s) (sector_at b.image s) (sector_at left.image s)) first.windows (second.touches.others s out));
-      };
-    }
 
   pub leaves_on : (v w : S) (x y : Creation) (a b left : Moment) → y.draft ≡ x.draft
       → LeavesFor state has v (Writing x) (draft_sectors x) a b

@@ -17,7 +17,7 @@ use Rattle.volume_contract.specs.Found.{ShowsReached}
 use Rattle.volume_contract.specs.Causes.{Causes}
 use Rattle.fsd_table.specs.Reached.{HasEntry}
 use Rattle.volume_contract.specs.Order.{KeepsRefused, CallStep, Test, reserve_steps, slices_steps, enter_steps, entry_steps, held_steps}
-use Rattle.volume_contract.specs.Pieces.{IsDraft, IsHeldVersion, Enters, GivesBack, HoldsAt, Reserves, Unholds, in_leader}
+use Rattle.volume_contract.specs.Pieces.{IsDraft, IsHeldVersion, Enters, GivesBack, HoldsAt, Reserves, Unholds, in_leader, slice_count}
 use Rattle.volume_contract.specs.State.{GoesOn, HasCounted, State, downs, downs_for, forces_first, most_readers, no_readers}
 use Rattle.client_desk.specs.declared.client.Creation.{Creation}
 use Rattle.client_desk.specs.declared.client.Reader.{Reader}
@@ -55,6 +55,15 @@ slice_len = 512
 -- how many of the bytes so far are written, of a version of so many: the whole slices of them, or all where it is whole
 abbrev pub written_len : (len got : ℕ) → ℕ
 written_len len got = if got == len then got else got / slice_len * slice_len
+
+-- how many slices these are: the full ones, or all where it is whole
+abbrev pub slices_due : (len got : ℕ) → ℕ
+slices_due len got = slice_count (written_len len got)
+
+-- how many slices so many bytes more of a client's creation fill or end
+abbrev pub piece_len : Client → (count : ℕ) → ℕ
+piece_len (Writing w) count = slices_due w.draft.length (w.got + count) - slices_due w.draft.length w.got
+piece_len other count = 0
 
 -- how many of so many bytes fill slices, or all of them
 abbrev pub whole_part : ℕ → Bool → ℕ

@@ -1,8 +1,7 @@
 //! The desk of a volume.
-ghost use Rattle.std.specs.Prelude.{◌≡◌, ◌<◌, ◌≤◌, ◌^◌, ◌||◌, ◌-◌, Err, IfOk, List, [], ℕ, length, MatchResult, None, set};
+ghost use Rattle.std.specs.Prelude.{◌≡◌, ◌<◌, ◌≤◌, ◌^◌, ◌||◌, ◌+◌, ◌-◌, Err, IfOk, List, [], ℕ, length, MatchResult, None, set};
 ghost use Rattle.sector_disk.specs.Calls.{OnlyReads, WritesDisk, device_in};
 ghost use Rattle.fsd_files.specs.Desk.{Open, Reads, Writes};
-ghost use Rattle.fsd_files.specs.Disk.{Touches};
 ghost use Rattle.fsd_formats.specs.NamePage.{sectors_for};
 ghost use Rattle.fsd_bytes.specs.declared.key.Key.{Key as KeyOf};
 ghost use Rattle.run_table.specs.declared.run.Run.{Run};
@@ -14,9 +13,9 @@ ghost use Rattle.volume_contract.specs.Causes.{Causes};
 ghost use Rattle.volume_contract.specs.Ends.{device_of};
 ghost use Rattle.volume_contract.specs.Order.{Follows, enter_steps, held_steps, slices_steps};
 ghost use Rattle.volume_contract.specs.Pieces.{reserve_len, with_opened};
-ghost use Rattle.volume_contract.specs.State.{Known, Leaves, Stands, State, no_readers, none_open, WritesWithin};
+ghost use Rattle.volume_contract.specs.State.{Known, Leaves, Stands, State, no_readers, none_open, WritesWithin, change_len};
 ghost use Rattle.volume_contract.specs.Telling.{IsDamagedData};
-ghost use Rattle.client_desk.specs.Clients.{AllStays, CausesOpening, ClosesClient, Continuing, DeclinesAt, Ended, EndsDraftAt, MayCome, IsWholeOne, IsWriter, LeavesNone, in_data, in_first, GivesUpPart, ContinuesReading, IsClient, IsDesk, IsOf, IsReader, KeepsClosing, KeepsDesk, ReadsMore, StartsReading, StartsWriting, WritesMore, client_at, as_idle, as_reading, as_writing, begin_steps, close_steps, declared_at, done_steps, drop_steps, found, client_key, left_at, desk_next_steps, no_desk, open_steps, piece_steps, client_place, too_long, too_short};
+ghost use Rattle.client_desk.specs.Clients.{AllStays, CausesOpening, ClosesClient, Continuing, DeclinesAt, Ended, EndsDraftAt, MayCome, IsWholeOne, IsWriter, LeavesNone, in_data, in_first, GivesUpPart, ContinuesReading, IsClient, IsDesk, IsOf, IsReader, KeepsClosing, KeepsDesk, ReadsMore, StartsReading, StartsWriting, WritesMore, client_at, as_idle, as_reading, as_writing, begin_steps, close_steps, declared_at, done_steps, drop_steps, found, client_key, left_at, desk_next_steps, no_desk, open_steps, piece_len, piece_steps, client_place, too_long, too_short};
 ghost use Rattle.client_desk.specs.Ends.{EndsBegin, EndsClose, EndsEntering, EndsPiece, EndsPieces, LeavesFor, LeavesOf, EndsDone, EndsDrop, EndsNext, EndsOpen, IsOpenIn, ReadsOn, ServesOpen, Sits, given_up};
 
 use crate::client::{Client, Creation, Reader, end};
@@ -286,6 +285,8 @@ impl Desk {
         requires desk { IsDesk (V.state v.old) self.old }
         ensures order { Follows (piece_steps (V.state v.old) self.old c (length bytes.now)) result }
         ensures disk { WritesDisk M.Machine (device_in device_of result) (LeavesOf V.state V.holds v.old self.old (in_data (client_at self.old (c - 1)))) m.old m.new }
+        ensures writes { let client = client_at self.old (c - 1) in
+            WritesWithin M.Machine (in_data client) (piece_len client (length bytes.now)) m.old m.new result }
         ensures state { KeepsDesk (WritesMore (c - 1) (length bytes.now)) (λ why. EndsDraftAt why (c - 1)) self.old self.new (V.state v.old) (V.state v.new) result }
         ensures done { M.honest m.new → (k : Known) (clients : List Open) → Sits V.state V.holds v.old self.old k clients (M.now m.old) →
             EndsPiece V.state V.holds c bytes.now k clients v.new self.new (M.now m.new) result }
@@ -331,8 +332,8 @@ impl Desk {
         ensures order { Follows (close_steps (V.state v.old) self.old c) result }
         ensures disk { let client = client_at self.old (c - 1) in
             WritesDisk M.Machine (device_in device_of result) (Leaves V.state V.holds v.old (λ t. force_writes (V.state v.old).layout t || in_first client t)) m.old m.new }
-        ensures rest { let client = client_at self.old (c - 1) in
-            M.honest m.new → Touches (λ t. force_writes (V.state v.old).layout t || in_first client t) (M.now m.old) (M.now m.new) }
+        ensures writes { let client = client_at self.old (c - 1) in
+            WritesWithin M.Machine (λ t. force_writes (V.state v.old).layout t || in_first client t) (1 + change_len (V.state v.old)) m.old m.new result }
         ensures state { KeepsClosing (c - 1) (close_steps (V.state v.old) self.old c) self.old self.new (V.state v.old) (V.state v.new) result }
         ensures causes { Causes M.Machine (V.resident v.old) (V.state v.old) (V.state v.new) m.old m.new result }
         ensures done { M.honest m.new → (k : Known) (clients : List Open) → Sits V.state V.holds v.old self.old k clients (M.now m.old) →
@@ -516,6 +517,7 @@ fn piece_of<M: Machine, V: Files<M>>(
     requires writes { MayCome client (length bytes.now) }
     ensures order { Follows (slices_steps (V.state v.old) (in_data client)) result.1 }
     ensures disk { WritesDisk M.Machine (device_in device_of result.1) (LeavesFor V.state V.holds v.old client (in_data client)) m.old m.new }
+    ensures writes { WritesWithin M.Machine (in_data client) (piece_len client (length bytes.now)) m.old m.new result.1 }
     ensures client { MatchResult result.1 (λ n. (V.state v.new ≡ V.state v.old) × Continuing (length bytes.now) n client result.0) (λ why. GivesUpPart client (V.state v.old) (V.state v.new) × (result.0 ≡ Client.Idle)) }
     ensures valid { IsClient result.0 }
     ensures done { M.honest m.new → (k : Known) → Stands V.state V.holds v.old k (M.now m.old) →
@@ -564,7 +566,7 @@ fn close_of<M: Machine, V: Files<M>>(
     requires whole { IsWholeOne client }
     ensures order { Follows (enter_steps (V.state v.old) None (in_first client)) result.1 }
     ensures disk { WritesDisk M.Machine (device_in device_of result.1) (Leaves V.state V.holds v.old (λ t. force_writes (V.state v.old).layout t || in_first client t)) m.old m.new }
-    ensures rest { M.honest m.new → Touches (λ t. force_writes (V.state v.old).layout t || in_first client t) (M.now m.old) (M.now m.new) }
+    ensures writes { WritesWithin M.Machine (λ t. force_writes (V.state v.old).layout t || in_first client t) (1 + change_len (V.state v.old)) m.old m.new result.1 }
     ensures keeps { ClosesClient client result.0 (V.state v.old) (V.state v.new) result.1 }
     ensures causes { Causes M.Machine (V.resident v.old) (V.state v.old) (V.state v.new) m.old m.new result.1 }
     ensures done { M.honest m.new → (k : Known) → Stands V.state V.holds v.old k (M.now m.old) →

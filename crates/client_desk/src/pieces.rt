@@ -1,14 +1,15 @@
 //! The bytes of a creation, as they come.
 ghost use Rattle.std.specs.Prelude.{◌≡◌, ◌⊎◌, ◌+◌, ◌≤◌, ◌%◌, ℕ, List, take, drop, ◌++◌, length, IfOk, IfErr};
+ghost use Rattle.std.specs.Result.{result_unwrap_or};
 ghost use Rattle.sector_disk.specs.Calls.{WritesDisk, device_in};
 ghost use Rattle.run_table.specs.declared.run.Run.{Run};
 ghost use Rattle.fsd_bytes.specs.declared.key.Serial.{Serial};
 ghost use Rattle.volume_contract.specs.Ends.{device_of};
 ghost use Rattle.volume_contract.specs.Order.{Comes, Follows, slices_steps};
 ghost use Rattle.volume_contract.specs.Pieces.{IsDraft};
-ghost use Rattle.volume_contract.specs.State.{Known, Stands};
+ghost use Rattle.volume_contract.specs.State.{Known, Stands, WritesWithin};
 ghost use Rattle.client_desk.specs.declared.client.Client.TheVariants.{Writing};
-ghost use Rattle.client_desk.specs.Clients.{FillsSlice, GrowsBy, draft_sectors, is_due, whole_part};
+ghost use Rattle.client_desk.specs.Clients.{FillsSlice, GrowsBy, draft_sectors, is_due, piece_len, whole_part};
 ghost use Rattle.client_desk.specs.Ends.{EndsAdd, IsWritingDraft, LeavesFor};
 
 use crate::client::Creation;
@@ -24,6 +25,7 @@ fn put_at(slice: &mut [u8; 512], at: usize, bytes: &[u8])
     requires { at + length bytes.now ≤ 512 }
     ensures front { take (at + length bytes.now) slice.new ≡ take at slice.old ++ bytes.now }
     ensures rest { drop (at + length bytes.now) slice.new ≡ drop (at + length bytes.now) slice.old }
+    ensures size { length slice.new ≡ 512 }
 {
     slice[at..at + bytes.len()].copy_from_slice(bytes);
 }
@@ -54,6 +56,7 @@ fn fill<M: Machine, V: Files<M>>(
     requires fits { w.old.got + length bytes.now ≤ w.old.draft.length }
     ensures order { IfErr result (λ why. Comes (slices_steps (V.state v.old) (draft_sectors w.old)) why) }
     ensures disk { WritesDisk M.Machine (device_in device_of result) (LeavesFor V.state V.holds v.old (Writing w.old) (draft_sectors w.old)) m.old m.new }
+    ensures writes { WritesWithin M.Machine (draft_sectors w.old) (piece_len (Writing w.old) (result_unwrap_or result (length bytes.now))) m.old m.new result }
     ensures state { V.state v.new ≡ V.state v.old }
     ensures fills { IfOk result (FillsSlice (length bytes.now) w.old w.new) }
     ensures draft { w.new.draft ≡ w.old.draft }
@@ -98,6 +101,7 @@ fn lay<M: Machine, V: Files<M>>(
     requires seam { (w.old.got % 512 ≡ 0) ⊎ (length bytes.now ≡ 0) }
     ensures order { Follows (slices_steps (V.state v.old) (draft_sectors w.old)) result }
     ensures disk { WritesDisk M.Machine (device_in device_of result) (LeavesFor V.state V.holds v.old (Writing w.old) (draft_sectors w.old)) m.old m.new }
+    ensures writes { WritesWithin M.Machine (draft_sectors w.old) (piece_len (Writing w.old) (length bytes.now)) m.old m.new result }
     ensures state { V.state v.new ≡ V.state v.old }
     ensures grows { IfOk result (λ x. GrowsBy (length bytes.now) w.old w.new) }
     ensures draft { w.new.draft ≡ w.old.draft }
@@ -130,6 +134,7 @@ pub fn add<M: Machine, V: Files<M>>(
     requires fits { w.old.got + length bytes.now ≤ w.old.draft.length }
     ensures order { Follows (slices_steps (V.state v.old) (draft_sectors w.old)) result }
     ensures disk { WritesDisk M.Machine (device_in device_of result) (LeavesFor V.state V.holds v.old (Writing w.old) (draft_sectors w.old)) m.old m.new }
+    ensures writes { WritesWithin M.Machine (draft_sectors w.old) (piece_len (Writing w.old) (length bytes.now)) m.old m.new result }
     ensures state { V.state v.new ≡ V.state v.old }
     ensures grows { IfOk result (λ x. GrowsBy (length bytes.now) w.old w.new) }
     ensures draft { w.new.draft ≡ w.old.draft }

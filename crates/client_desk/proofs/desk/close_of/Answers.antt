@@ -1,5 +1,4 @@
-use Rattle.fsd_files.specs.Disk.{Touches}
-use Rattle.std.proofs.Common.{◌≡◌, ◌∙◌, ◌||◌, None, Result, Ok, Err, refl, sym, ap, subst}
+use Rattle.std.proofs.Common.{◌≡◌, ◌∙◌, ◌+◌, ◌||◌, None, Result, Ok, Err, refl, sym, ap, subst}
 use Rattle.sector_disk.specs.Calls.{WritesDisk}
 use Rattle.fsd_bytes.specs.declared.key.Key.{Key}
 use Rattle.fsd_bytes.specs.declared.refusal.Refusal.{Refusal}
@@ -7,7 +6,7 @@ use Rattle.fsd_files.specs.Desk.{Writes}
 use Rattle.fsd_sound.specs.Writes.{force_writes}
 use Rattle.volume_contract.specs.Ends.{device_of}
 use Rattle.volume_contract.specs.declared.token.Draft.{Draft}
-use Rattle.volume_contract.specs.State.{Leaves}
+use Rattle.volume_contract.specs.State.{Leaves, WritesWithin, change_len}
 use Rattle.client_desk.specs.declared.client.Client.{Client}
 use Rattle.client_desk.specs.declared.client.Client.TheVariants.{Idle, Writing}
 use Rattle.client_desk.specs.Clients.{ClosesClient, IsClient, IsWholeOne, in_first}
@@ -75,14 +74,14 @@ returns-in-Err-clause-keeps g c =
       kept = keeps.kept;
     })
 
-pub returns-in-Ok-clause-rest : goal.returns-in-Ok-clause-rest
-returns-in-Ok-clause-rest g c h =
-    let V = g.V.Files in
-    let M = g.M.Machine in
-    subst (λ (x : Client). Touches (λ t. force_writes (V.state c.args.v.now).layout t || in_first x t) (M.now c.args.m.now) (M.now c.enter.new.m)) (sym c.in-Writing.is) (c.in-Ok.ensures.writes.rest h)
+pub returns-in-Ok-clause-writes : goal.returns-in-Ok-clause-writes
+returns-in-Ok-clause-writes g c =
+    let s = g.V.Files.state c.args.v.now in
+    let r : Result Key Refusal = Ok c.in-Ok.key in
+    subst (λ (x : Client). WritesWithin g.M.Machine (λ t. force_writes s.layout t || in_first x t) (1 + change_len s) c.args.m.now c.enter.new.m r) (sym c.in-Writing.is) c.in-Ok.ensures.writes
 
-pub returns-in-Err-clause-rest : goal.returns-in-Err-clause-rest
-returns-in-Err-clause-rest g c h =
-    let V = g.V.Files in
-    let M = g.M.Machine in
-    subst (λ (x : Client). Touches (λ t. force_writes (V.state c.args.v.now).layout t || in_first x t) (M.now c.args.m.now) (M.now c.enter.new.m)) (sym c.in-Writing.is) (c.in-Err.ensures.writes.rest h)
+pub returns-in-Err-clause-writes : goal.returns-in-Err-clause-writes
+returns-in-Err-clause-writes g c =
+    let s = g.V.Files.state c.args.v.now in
+    let r : Result Key Refusal = Err c.in-Err.why in
+    subst (λ (x : Client). WritesWithin g.M.Machine (λ t. force_writes s.layout t || in_first x t) (1 + change_len s) c.args.m.now c.enter.new.m r) (sym c.in-Writing.is) c.in-Err.ensures.writes

@@ -1,12 +1,13 @@
-use Rattle.std.proofs.Common.{◌≡◌, ℕ, ◌+◌, ◌-◌, ◌/◌, ◌%◌, ◌≤◌, true, false, List, [], ◌++◌, length, take, drop, refl, arith, sym, ap, subst, ◌∙◌}
+use Rattle.std.proofs.Common.{◌≡◌, ℕ, ◌+◌, ◌-◌, ◌/◌, ◌%◌, ◌≤◌, true, false, List, [], ◌++◌, length, take, drop, refl, arith, sym, ap, subst, ◌∙◌, inl}
 use Rattle.std.proofs.lemmas.List.{length-take-le, append-nil}
 use Rattle.run_table.specs.declared.run.Run.{Run}
 use Rattle.sector_disk.proofs.CallLaws.{writes_more, writes_none}
 use Rattle.client_desk.specs.declared.client.Client.TheVariants.{Writing}
 use Rattle.client_desk.specs.Clients.{draft_sectors, is_due}
 use Rattle.client_desk.specs.Ends.{IsWritingDraft, LeavesFor}
-use Rattle.client_desk.proofs.PieceLaws.{adds_unwritten, adds_written, leaves_more, leaves_still, slices_refuse, broken_off, due_slices, due_tail, undue_writing, unequal}
-use Rattle.volume_contract.specs.Pieces.{slices_if, slices_in, with_slices}
+use Rattle.client_desk.proofs.CountLaws.{due_fill, due_more, due_none, due_undue}
+use Rattle.client_desk.proofs.PieceLaws.{touches_data, adds_unwritten, adds_written, leaves_more, leaves_still, slices_refuse, broken_off, due_slices, due_tail, undue_writing, unequal}
+use Rattle.volume_contract.specs.Pieces.{slice_count, slices_if, slices_in, with_slices}
 use Rattle.client_desk.specs.Clients.{written_len}
 use Rattle.client_desk.specs.Ends.{slices_so_far}
 use Rattle.std.proofs.lemmas.List.{length-append}
@@ -104,3 +105,61 @@ returns-in-Err-clause-done g c h k stands name len runs serial before writing =
     let is = ap (λ (r : List Run). slices_in k.opened.drafts r) writing.lies ∙ writing.written in
     broken_off V.state V.holds {T = ℕ} (λ n. take n c.args.bytes.now) k (record { name = w.name; draft = w.draft; got = w.got; slice = c.put_at.new.slice }) w.draft name len runs serial before (w.got / 512) (take (w.got % 512 + c.min-count.result) c.put_at.new.slice) (slices_so_far len before) c.write_slices.new.self (g.M.Machine.now c.write_slices.new.m) c.in-Err.why writing.lies
     (c.in-Err.ensures.done h k stands (slices_so_far len before) is)
+
+pub returns-then-at-eq0-clause-writes : goal.returns-then-at-eq0-clause-writes
+returns-then-at-eq0-clause-writes g c =
+    let none = due_none c.args.w.now.draft.length c.args.w.now.got in
+    record {
+      rest = λ h. record { size = refl; others = λ s out. inl refl };
+      counted = λ t. omega (arith, none);
+    }
+
+pub returns-then-w-clause-writes : goal.returns-then-w-clause-writes
+returns-then-w-clause-writes g c =
+    let none = due_none c.args.w.now.draft.length c.args.w.now.got in
+    record {
+      rest = λ h. record { size = refl; others = λ s out. inl refl };
+      counted = λ t. omega (arith, none);
+    }
+
+pub returns-then-not-is_due-clause-writes : goal.returns-then-not-is_due-clause-writes
+returns-then-not-is_due-clause-writes g c =
+    let w = c.args.w.now in
+    let n = c.min-count.result in
+    let undue : is_due w.draft.length (w.got % 512 + n) (w.got + n) ≡ false = sym c.is_due.ensures ∙ c.if-not-is_due.true in
+    let none = due_undue w.draft.length w.got n (unequal w.got w.draft.length c.if-w.false) undue (omega (arith, c.min-count.ensures)) in
+    record {
+      rest = λ h. record { size = refl; others = λ s out. inl refl };
+      counted = λ t. omega (arith, none);
+    }
+
+pub returns-in-Ok-clause-writes : goal.returns-in-Ok-clause-writes
+returns-in-Ok-clause-writes g c =
+    let M = g.M.Machine in
+    let w = c.args.w.now in
+    let n = c.min-count.result in
+    let e = c.in-Ok.ensures.writes in
+    let chunk = take (w.got % 512 + n) c.put_at.new.slice in
+    let size : length chunk ≡ w.got % 512 + n = length-take-le (w.got % 512 + n) c.put_at.new.slice (omega (arith, c.min-count.ensures, c.put_at.ensures.size)) in
+    let due : is_due w.draft.length (w.got % 512 + n) (w.got + n) ≡ true = sym c.is_due.ensures ∙ c.if-not-is_due.false in
+    let same = ap slice_count size ∙ due_fill w.draft.length w.got n (unequal w.got w.draft.length c.if-w.false) due in
+    record {
+      rest = λ h. touches_data w (w.got / 512) (length chunk) (M.now c.args.m.now) (M.now c.write_slices.new.m) (e.rest h);
+      counted = λ t. let counted = e.counted t in omega (arith, counted, same);
+    }
+
+pub returns-in-Err-clause-writes : goal.returns-in-Err-clause-writes
+returns-in-Err-clause-writes g c =
+    let M = g.M.Machine in
+    let w = c.args.w.now in
+    let n = c.min-count.result in
+    let e = c.in-Err.ensures.writes in
+    let chunk = take (w.got % 512 + n) c.put_at.new.slice in
+    let size : length chunk ≡ w.got % 512 + n = length-take-le (w.got % 512 + n) c.put_at.new.slice (omega (arith, c.min-count.ensures, c.put_at.ensures.size)) in
+    let due : is_due w.draft.length (w.got % 512 + n) (w.got + n) ≡ true = sym c.is_due.ensures ∙ c.if-not-is_due.false in
+    let same = ap slice_count size ∙ due_fill w.draft.length w.got n (unequal w.got w.draft.length c.if-w.false) due in
+    let more = due_more w.draft.length w.got n (length c.args.bytes.now) (omega (arith, c.min-count.ensures)) c.requires.fits in
+    record {
+      rest = λ h. touches_data w (w.got / 512) (length chunk) (M.now c.args.m.now) (M.now c.write_slices.new.m) (e.rest h);
+      counted = λ t. let counted = e.counted t in (counted.0, omega (arith, counted.1, same, more));
+    }

@@ -4,10 +4,11 @@ use Rattle.run_table.specs.declared.run.Run.{Run}
 use Rattle.sector_disk.proofs.CallLaws.{writes_more}
 use Rattle.client_desk.specs.declared.client.Client.TheVariants.{Writing}
 use Rattle.client_desk.proofs.SliceLaws.{part_within}
-use Rattle.client_desk.proofs.PieceLaws.{adds_written, leaves_more, slices_refuse, broken_off, none_slices, none_tail, whole_slices, whole_tail}
-use Rattle.volume_contract.specs.Pieces.{slices_if, slices_in, with_slices}
+use Rattle.client_desk.proofs.CountLaws.{due_lay}
+use Rattle.client_desk.proofs.PieceLaws.{touches_data, adds_written, leaves_more, slices_refuse, broken_off, none_slices, none_tail, whole_slices, whole_tail}
+use Rattle.volume_contract.specs.Pieces.{slice_count, slices_if, slices_in, with_slices}
 use Rattle.client_desk.specs.Ends.{slices_so_far}
-use Rattle.std.proofs.lemmas.List.{length-append, length-drop, nil_from_length}
+use Rattle.std.proofs.lemmas.List.{length-append, length-drop, length-take-le, nil_from_length}
 use Rattle.std.proofs.Math.Seq.{take-length}
 use Rattle.client_desk.proofs.pieces.lay.Goals as goal
 
@@ -72,3 +73,31 @@ returns-in-Err-clause-done g c h k stands name len runs serial before writing =
     let is = ap (λ (r : List Run). slices_in k.opened.drafts r) writing.lies ∙ writing.written in
     broken_off V.state V.holds {T = Unit {0}} (λ x. c.args.bytes.now) k w w.draft name len runs serial before (w.got / 512) (take c.whole_part-count.result c.args.bytes.now) (slices_so_far len before) c.write_slices.new.self (g.M.Machine.now c.write_slices.new.m) c.in-Err.why writing.lies
     (c.in-Err.ensures.done h k stands (slices_so_far len before) is)
+
+pub returns-in-Ok-clause-writes : goal.returns-in-Ok-clause-writes
+returns-in-Ok-clause-writes g c =
+    let M = g.M.Machine in
+    let w = c.args.w.now in
+    let more = c.args.bytes.now in
+    let n = c.whole_part-count.result in
+    let e = c.in-Ok.ensures.writes in
+    let part : n ≤ length more = subst (λ (m : ℕ). m ≤ length more) (sym c.whole_part-count.ensures) (part_within (length more) (w.got + length more == w.draft.length)) in
+    let same = ap slice_count (length-take-le n more part ∙ c.whole_part-count.ensures) ∙ due_lay w.draft.length w.got (length more) c.requires.seam in
+    record {
+      rest = λ h. touches_data w (w.got / 512) (length (take n more)) (M.now c.args.m.now) (M.now c.write_slices.new.m) (e.rest h);
+      counted = λ t. let counted = e.counted t in omega (arith, counted, same);
+    }
+
+pub returns-in-Err-clause-writes : goal.returns-in-Err-clause-writes
+returns-in-Err-clause-writes g c =
+    let M = g.M.Machine in
+    let w = c.args.w.now in
+    let more = c.args.bytes.now in
+    let n = c.whole_part-count.result in
+    let e = c.in-Err.ensures.writes in
+    let part : n ≤ length more = subst (λ (m : ℕ). m ≤ length more) (sym c.whole_part-count.ensures) (part_within (length more) (w.got + length more == w.draft.length)) in
+    let same = ap slice_count (length-take-le n more part ∙ c.whole_part-count.ensures) ∙ due_lay w.draft.length w.got (length more) c.requires.seam in
+    record {
+      rest = λ h. touches_data w (w.got / 512) (length (take n more)) (M.now c.args.m.now) (M.now c.write_slices.new.m) (e.rest h);
+      counted = λ t. let counted = e.counted t in (counted.0, omega (arith, counted.1, same));
+    }

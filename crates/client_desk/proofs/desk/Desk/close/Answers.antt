@@ -1,14 +1,13 @@
-use Rattle.std.proofs.Common.{◌-◌, ◌||◌, ℕ, List, set, None, Result, Ok, Err, false, inl, inr, refl, arith, sym, ap, subst, ◌∙◌}
+use Rattle.std.proofs.Common.{◌+◌, ◌-◌, ◌||◌, ℕ, List, set, None, Result, Ok, Err, false, inl, inr, refl, arith, sym, ap, subst, ◌∙◌}
 use Rattle.std.proofs.lemmas.List.{set-get_or}
 use Rattle.sector_disk.specs.Calls.{WritesDisk, device_in}
 use Rattle.sector_disk.proofs.CallLaws.{writes_none, writes_told}
-use Rattle.fsd_files.specs.Disk.{Touches}
 use Rattle.fsd_sound.specs.Writes.{force_writes}
 use Rattle.volume_contract.specs.Ends.{device_of}
 use Rattle.fsd_bytes.specs.declared.key.Key.{Key}
 use Rattle.fsd_bytes.specs.declared.refusal.Refusal.{Refusal}
 use Rattle.volume_contract.specs.Order.{KeepsRefused, enter_steps}
-use Rattle.volume_contract.specs.State.{HasCounted, Leaves, downs_for, forces_first}
+use Rattle.volume_contract.specs.State.{HasCounted, Leaves, WritesWithin, change_len, downs_for, forces_first}
 use Rattle.client_desk.specs.declared.client.Client.{Client}
 use Rattle.client_desk.specs.declared.client.Client.TheVariants.{Idle}
 use Rattle.client_desk.specs.Clients.{ClosesClient, Continues, client_at, EntersFor, fault_in, in_first, IsDesk, IsWholeOne, too_short}
@@ -132,29 +131,31 @@ returns-in-Err-closed-clause-disk g c =
     (c.take.ensures.client ∙ ap (λ (n : ℕ). client_at desk n) at.place)
     (subst (λ (r : Result Key Refusal). WritesDisk M (device_in device_of r) (Leaves V.state V.holds v (λ t. force_writes (V.state v).layout t || in_first c.take.result t)) c.args.m.now c.close_of-client.new.m) c.in-Err-closed.is c.close_of-client.ensures.disk)
 
-pub returns-in-Err-clause-rest : goal.returns-in-Err-clause-rest
-returns-in-Err-clause-rest g c h = record { size = refl; others = λ s out. inl refl }
+pub returns-in-Err-clause-writes : goal.returns-in-Err-clause-writes
+returns-in-Err-clause-writes g c = record { rest = λ h. record { size = refl; others = λ s out. inl refl }; counted = λ t. (omega arith, omega arith) }
 
-pub returns-in-Some-clause-rest : goal.returns-in-Some-clause-rest
-returns-in-Some-clause-rest g c h = record { size = refl; others = λ s out. inl refl }
+pub returns-in-Some-clause-writes : goal.returns-in-Some-clause-writes
+returns-in-Some-clause-writes g c = record { rest = λ h. record { size = refl; others = λ s out. inl refl }; counted = λ t. (omega arith, omega arith) }
 
-pub returns-in-Ok-closed-clause-rest : goal.returns-in-Ok-closed-clause-rest
-returns-in-Ok-closed-clause-rest g c h =
-    let V = g.V.Files in
+pub returns-in-Ok-closed-clause-writes : goal.returns-in-Ok-closed-clause-writes
+returns-in-Ok-closed-clause-writes g c =
     let M = g.M.Machine in
+    let s = g.V.Files.state c.args.v.now in
     let desk = c.args.self.now in
     let at = found_writing desk c.args.c c.in-Ok.place (sym c.in-Ok.ensures.is) in
-    subst (λ (z : Client). Touches (λ t. force_writes (V.state c.args.v.now).layout t || in_first z t) (M.now c.args.m.now) (M.now c.close_of-client.new.m))
-    (c.take.ensures.client ∙ ap (λ (n : ℕ). client_at desk n) at.place) (c.close_of-client.ensures.rest h)
+    let r : Result Key Refusal = Ok c.in-Ok-closed.key in
+    subst (λ (z : Client). WritesWithin M (λ t. force_writes s.layout t || in_first z t) (1 + change_len s) c.args.m.now c.close_of-client.new.m r) (c.take.ensures.client ∙ ap (λ (n : ℕ). client_at desk n) at.place)
+    (subst (λ (y : Result Key Refusal). WritesWithin M (λ t. force_writes s.layout t || in_first c.take.result t) (1 + change_len s) c.args.m.now c.close_of-client.new.m y) c.in-Ok-closed.is c.close_of-client.ensures.writes)
 
-pub returns-in-Err-closed-clause-rest : goal.returns-in-Err-closed-clause-rest
-returns-in-Err-closed-clause-rest g c h =
-    let V = g.V.Files in
+pub returns-in-Err-closed-clause-writes : goal.returns-in-Err-closed-clause-writes
+returns-in-Err-closed-clause-writes g c =
     let M = g.M.Machine in
+    let s = g.V.Files.state c.args.v.now in
     let desk = c.args.self.now in
     let at = found_writing desk c.args.c c.in-Ok.place (sym c.in-Ok.ensures.is) in
-    subst (λ (z : Client). Touches (λ t. force_writes (V.state c.args.v.now).layout t || in_first z t) (M.now c.args.m.now) (M.now c.close_of-client.new.m))
-    (c.take.ensures.client ∙ ap (λ (n : ℕ). client_at desk n) at.place) (c.close_of-client.ensures.rest h)
+    let r : Result Key Refusal = Err c.in-Err-closed.why in
+    subst (λ (z : Client). WritesWithin M (λ t. force_writes s.layout t || in_first z t) (1 + change_len s) c.args.m.now c.close_of-client.new.m r) (c.take.ensures.client ∙ ap (λ (n : ℕ). client_at desk n) at.place)
+    (subst (λ (y : Result Key Refusal). WritesWithin M (λ t. force_writes s.layout t || in_first c.take.result t) (1 + change_len s) c.args.m.now c.close_of-client.new.m y) c.in-Err-closed.is c.close_of-client.ensures.writes)
 
 pub returns-in-Err-clause-state : goal.returns-in-Err-clause-state
 returns-in-Err-clause-state g c =

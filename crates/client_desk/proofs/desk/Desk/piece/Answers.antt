@@ -1,14 +1,14 @@
-use Rattle.std.proofs.Common.{◌≡◌, ◌-◌, ℕ, List, [], length, set, Result, Ok, Err, refl, arith, sym, ap, subst, ◌∙◌}
+use Rattle.std.proofs.Common.{◌≡◌, ◌-◌, ℕ, List, [], length, set, Result, Ok, Err, refl, arith, sym, ap, subst, ◌∙◌, inl}
 use Rattle.std.specs.Prelude.{MatchResult}
 use Rattle.sector_disk.specs.Calls.{WritesDisk, device_in}
 use Rattle.sector_disk.proofs.CallLaws.{writes_more, writes_none, writes_told}
 use Rattle.fsd_bytes.specs.declared.refusal.Refusal.{Refusal}
 use Rattle.volume_contract.specs.Ends.{device_of}
 use Rattle.volume_contract.specs.Order.{Comes, Follows, slices_steps}
-use Rattle.volume_contract.specs.State.{State}
+use Rattle.volume_contract.specs.State.{State, WritesWithin}
 use Rattle.client_desk.specs.declared.client.Client.{Client}
 use Rattle.client_desk.specs.declared.client.Client.TheVariants.{Idle, Writing}
-use Rattle.client_desk.specs.Clients.{Continuing, EndsDraftAt, GivesUpPart, MayCome, IsDesk, client_at, in_data}
+use Rattle.client_desk.specs.Clients.{Continuing, EndsDraftAt, GivesUpPart, MayCome, IsDesk, client_at, in_data, piece_len}
 use Rattle.client_desk.specs.Ends.{AnswersAs, EndsPiece, EndsPieces, LeavesFor, LeavesOf}
 use Rattle.fsd_files.specs.Desk.{piece_outcome}
 use Rattle.fsd_files.specs.declared.reply.Reply.TheVariants.{Took}
@@ -190,3 +190,29 @@ returns-in-Err-came-clause-state g c =
           (broken_at s (in_data c.take.result) i desk c.set.new.self s (V.state c.set.new.v) c.in-Err-came.why comes
           (record { desk = self; volume = subst (λ (u : V-of g). GivesUpPart (client_at desk i) s (V.state u)) (sym c.set.ensures.volume) gives }));
     }
+
+pub returns-in-Err-clause-writes : goal.returns-in-Err-clause-writes
+returns-in-Err-clause-writes g c = record { rest = λ h. record { size = refl; others = λ s out. inl refl }; counted = λ t. (omega arith, omega arith) }
+
+pub returns-in-Some-clause-writes : goal.returns-in-Some-clause-writes
+returns-in-Some-clause-writes g c = record { rest = λ h. record { size = refl; others = λ s out. inl refl }; counted = λ t. (omega arith, omega arith) }
+
+pub returns-in-Ok-came-clause-writes : goal.returns-in-Ok-came-clause-writes
+returns-in-Ok-came-clause-writes g c =
+    let M = g.M.Machine in
+    let desk = c.args.self.now in
+    let count = length c.args.bytes.now in
+    let at = found_writing desk c.args.c c.in-Ok.place (sym c.in-Ok.ensures.is) in
+    let r : Result ℕ Refusal = Ok c.in-Ok-came.total in
+    subst (λ (z : Client). WritesWithin M (in_data z) (piece_len z count) c.args.m.now c.piece_of-client.new.m r) (c.take.ensures.client ∙ ap (λ (n : ℕ). client_at desk n) at.place)
+    (subst (λ (y : Result ℕ Refusal). WritesWithin M (in_data c.take.result) (piece_len c.take.result count) c.args.m.now c.piece_of-client.new.m y) c.in-Ok-came.is c.piece_of-client.ensures.writes)
+
+pub returns-in-Err-came-clause-writes : goal.returns-in-Err-came-clause-writes
+returns-in-Err-came-clause-writes g c =
+    let M = g.M.Machine in
+    let desk = c.args.self.now in
+    let count = length c.args.bytes.now in
+    let at = found_writing desk c.args.c c.in-Ok.place (sym c.in-Ok.ensures.is) in
+    let r : Result ℕ Refusal = Err c.in-Err-came.why in
+    subst (λ (z : Client). WritesWithin M (in_data z) (piece_len z count) c.args.m.now c.piece_of-client.new.m r) (c.take.ensures.client ∙ ap (λ (n : ℕ). client_at desk n) at.place)
+    (subst (λ (y : Result ℕ Refusal). WritesWithin M (in_data c.take.result) (piece_len c.take.result count) c.args.m.now c.piece_of-client.new.m y) c.in-Err-came.is c.piece_of-client.ensures.writes)
