@@ -65,11 +65,7 @@ pub fn read_anchor(b: &[u8; 512]) -> Option<Anchor>
     if !is_anchor(&a) {
         return None;
     }
-    if spells_anchor(&a, b) {
-        Some(a)
-    } else {
-        None
-    }
+    if spells_anchor(&a, b) { Some(a) } else { None }
 }
 
 /// The anchor whose sector this is, if it is one's whose volume was closed.

@@ -31,7 +31,11 @@ fn bit_at(l: &Layout, map: &Map, free_pages: &[bool], s: u32) -> u8
     requires of { AreOf l.now map.now free_pages.now }
     ensures { result ≡ (if is_marked l.now map.now.sectors free_pages.now s then 1 else 0) }
 {
-    if is_marked(l, map, free_pages, s) { 1 } else { 0 }
+    if is_marked(l, map, free_pages, s) {
+        1
+    } else {
+        0
+    }
 }
 
 // Eight bits from a sector on, the first on the left.
