@@ -45,8 +45,8 @@ returns-in-Ok-read-clause-done g t c h k stands len =
     let key = c.args.key.now in
     let count = c.in-Ok-read.count in
     let e = entry_of key (volume_of k).entries in
-    let size : length c.as_mut_slice.result.now ≡ c.args.most + 1 = omega (arith, c.in-Ok.ensures.len, c.as_mut_slice.ensures.len) in
-    let lens = some_longer e c.args.most (length c.as_mut_slice.result.now) (omega (arith, size)) len in
+    let most : c.args.most ≤ length c.as_mut_slice.result.now = omega (arith, c.in-Ok.ensures.len, c.as_mut_slice.ensures.len) in
+    let lens = some_longer e c.args.most (length c.as_mut_slice.result.now) most len in
     let is = read_does V.state V.holds key c.args.v.now c.read.new.self k (M.now c.args.m.now) (M.now c.read.new.m) c.as_mut_slice.result.now c.read.new.buf count lens (c.in-Ok-read.ensures.done h k stands) in
     let items = take_at c.read.new.buf (drop (length c.read.new.buf) c.in-Ok.bytes.items) c.in-Ok.bytes.len (omega (arith, c.in-Ok.ensures.len, c.as_mut_slice.ensures.len, c.read.auto.buf)) in
     rw c.first_bytes.ensures (k, subst (λ (b : List ℕ). IsAnswered (Word.Get key) (V.state c.args.v.now) k k (M.now c.args.m.now).image (M.now c.read.new.m).image (Said.Bytes key (take count b))) (sym items) is, c.in-Ok-read.ensures.stands h k stands, tt)
@@ -61,8 +61,8 @@ returns-in-Err-clause-done g t c h k stands len =
     let V = g.V.Files in
     let M = g.M.Machine in
     let e = entry_of c.args.key.now (volume_of k).entries in
-    let size : length c.as_mut_slice.result.now ≡ c.args.most + 1 = omega (arith, c.in-Ok.ensures.len, c.as_mut_slice.ensures.len) in
-    let lens = some_longer e c.args.most (length c.as_mut_slice.result.now) (omega (arith, size)) len in
+    let most : c.args.most ≤ length c.as_mut_slice.result.now = omega (arith, c.in-Ok.ensures.len, c.as_mut_slice.ensures.len) in
+    let lens = some_longer e c.args.most (length c.as_mut_slice.result.now) most len in
     subst (λ (r : Result Reply Fault). Does V.state V.holds (Word.Get c.args.key.now) c.args.v.now c.read.new.self k (M.now c.args.m.now) (M.now c.read.new.m) r) (sym c.read_ended_by.ensures.is)
     (unread_does V.state V.holds c.args.key.now c.args.v.now c.read.new.self k (M.now c.args.m.now) (M.now c.read.new.m) c.as_mut_slice.result.now c.read.new.buf c.in-Err.why lens (c.in-Err.ensures.stands h k stands) (c.in-Err.ensures.done h k stands))
 
