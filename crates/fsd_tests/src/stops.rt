@@ -321,42 +321,46 @@ fn keeps(alloc: Global) -> Result<Vec<u8>, AllocError> {
     Ok(script)
 }
 
-const SMALL: &str = "cfs format w 721 200 16";
+pub(crate) const SMALL: &str = "cfs format w 721 200 16";
 
-const SMALL_TWO: &str = "cfs format w 721 200 16 --layout 2";
+pub(crate) const SMALL_TWO: &str = "cfs format w 721 200 16 --layout 2";
 
-// A volume, the first sector of a write, which of the writes there is stopped, how many of its sectors stand then, and
-// what is listed.
-const ROUNDS: [(&str, u32, u32, u32, &str); 14] = [
-    (SMALL, 216, 1, 4, "x!1 0 1 27\nlisted 1\n"),
+/// A volume, the first sector of a write, which of the writes there is stopped, how many of its sectors stand then, and
+/// what is listed.
+pub(crate) type Round<'a> = (&'a str, u32, u32, u32, &'a str);
+
+const ROUNDS: [Round<'static>; 6] = [
     (SMALL, 216, 1, 5, "x!1 0 1 28\nlisted 1\n"),
     (SMALL, 8, 2, 0, "x!1 0 1 83\nlisted 1\n"),
-    (SMALL, 12, 2, 0, "x!1 0 1 83\nlisted 1\n"),
-    (SMALL, 16, 2, 0, "x!1 0 1 83\nlisted 1\n"),
     (SMALL, 16, 2, 4, "x!1 0 1 83\nlisted 1\n"),
     (SMALL, 16, 2, 5, "x!1 0 1 84\nlisted 1\n"),
-    (SMALL_TWO, 216, 1, 5, "x!1 0 1 21\nlisted 1\n"),
-    (SMALL_TWO, 216, 1, 6, "x!1 0 1 22\nlisted 1\n"),
-    (SMALL_TWO, 8, 2, 0, "x!1 0 1 65\nlisted 1\n"),
     (SMALL_TWO, 12, 2, 0, "x!1 0 1 65\nlisted 1\n"),
-    (SMALL_TWO, 16, 2, 0, "x!1 0 1 65\nlisted 1\n"),
-    (SMALL_TWO, 16, 2, 5, "x!1 0 1 65\nlisted 1\n"),
     (SMALL_TWO, 16, 2, 6, "x!1 0 1 66\nlisted 1\n"),
 ];
+
+/// The first of these of which something else is listed.
+pub(crate) fn wrong_round(alloc: Global, rounds: &[Round]) -> Result<Option<usize>, AllocError> {
+    let script = keeps(alloc)?;
+    for (i, (format, first, nth, stand, listed)) in rounds.iter().enumerate() {
+        let m = calm(alloc, formatted(alloc, format)?);
+        let event = Event::StopIn {
+            first: *first,
+            nth: *nth,
+            stand: *stand,
+        };
+        let (m, _) = run(alloc, m, &[event], "cfs script w", script.as_slice())?;
+        let (m, status) = run(alloc, m, &[], "cfs list w *", b"")?;
+        if status != 0 || m.said() != listed.as_bytes() {
+            return Ok(Some(i));
+        }
+    }
+    Ok(None)
+}
 
 // A third of 200 sectors has 28 records of one page, or 22 on layout 2.
 // The 85th, or the 67th, enters the first third again: the anchor goes to 8 and 12 before it.
 #[test]
 fn the_log_comes_round(rt: HostRuntime) -> Result<(), Fail> {
-    let alloc = rt.alloc();
-    let script = keeps(alloc)?;
-    for (format, first, nth, stand, listed) in ROUNDS {
-        let m = calm(alloc, formatted(alloc, format)?);
-        let event = Event::StopIn { first, nth, stand };
-        let (m, _) = run(alloc, m, &[event], "cfs script w", script.as_slice())?;
-        let (m, status) = run(alloc, m, &[], "cfs list w *", b"")?;
-        assert_eq!(rt; status, 0);
-        assert_eq!(rt; m.said(), listed.as_bytes(), "{format} {first} {stand}");
-    }
+    assert_eq!(rt; wrong_round(rt.alloc(), &ROUNDS)?, None);
     Ok(())
 }
