@@ -1,11 +1,11 @@
 -- How many slices a piece writes.
-use Rattle.std.proofs.Common.{◌≡◌, ◌⊎◌, inl, inr, subst, ℕ, ◌+◌, ◌-◌, ◌*◌, ◌/◌, ◌%◌, ◌<◌, ◌≤◌, Bool, true, false, cond, refl, sym, ap, ◌∙◌, arith, Result, Ok, Err}
+use Rattle.std.proofs.Common.{◌≡◌, ◌⊎◌, inl, inr, subst, ℕ, ◌+◌, ◌-◌, ◌*◌, ◌/◌, ◌%◌, ◌≤◌, Bool, true, false, cond, refl, sym, ap, ◌∙◌, arith, Result, Ok, Err}
 use Rattle.std.specs.Prelude.{◌==◌}
 use Rattle.std.proofs.lemmas.Bool.Decides.{eqb_tells}
 use Rattle.sector_disk.specs.Machine.{Ledger}
 use Rattle.volume_contract.specs.Pieces.{slice_count}
 use Rattle.volume_contract.specs.State.{Counted}
-use Rattle.client_desk.specs.Clients.{is_due, slices_due, whole_part, written_len}
+use Rattle.client_desk.specs.Clients.{is_due, slices_due, whole_part}
 use Rattle.client_desk.proofs.SliceLaws.{count_more, count_whole, written_more, written_whole}
 use Rattle.client_desk.proofs.PieceLaws.{written_due, written_start, written_undue}
 

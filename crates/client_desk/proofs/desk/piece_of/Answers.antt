@@ -1,4 +1,4 @@
-use Rattle.std.proofs.Common.{ℕ, List, length, None, Result, Ok, Err, refl, sym, subst}
+use Rattle.std.proofs.Common.{ℕ, length, None, Result, Ok, Err, refl, sym, subst}
 use Rattle.sector_disk.specs.Calls.{WritesDisk}
 use Rattle.fsd_bytes.specs.declared.refusal.Refusal.{Refusal}
 use Rattle.fsd_files.specs.Desk.{Writes}

@@ -5,7 +5,6 @@ use Rattle.volume_contract.specs.Pieces.{with_opened, draft_wrote}
 use Rattle.sector_disk.proofs.CallLaws.{writes_then}
 use Rattle.std.proofs.Common.{append_assoc}
 use Rattle.std.proofs.lemmas.List.{take-append-drop}
-use Rattle.volume_contract.specs.State.{Counted}
 use Rattle.volume_contract.specs.declared.token.Draft.{Draft}
 use Rattle.fsd_bytes.specs.declared.refusal.Refusal.{Refusal}
 use Rattle.fsd_files.specs.Disk.{Touches}
