@@ -1,4 +1,4 @@
-use Rattle.std.proofs.Common.{◌≡◌, ◌≤◌, false, length}
+use Rattle.std.proofs.Common.{◌≤◌, false, length}
 use Rattle.sector_disk.specs.Calls.{LeavesDisk}
 use Rattle.sector_disk.specs.Machine.{Wears}
 use Rattle.fsd_texts.specs.Script.{max_input}
