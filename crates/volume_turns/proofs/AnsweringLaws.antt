@@ -11,8 +11,9 @@ use Rattle.fsd_bytes.specs.declared.key.Key.{Key}
 use Rattle.fsd_bytes.specs.declared.refusal.Refusal.{Refusal}
 use Rattle.fsd_bytes.specs.declared.refusal.Refusal.TheVariants as Why
 use Rattle.fsd_formats.specs.NamePage.{max_keep, sectors_for}
+use Rattle.sector_disk.specs.declared.machine.Machine.{Ghosts}
 use Rattle.sector_disk.specs.Image.{IsWorn, open_damage}
-use Rattle.sector_disk.specs.Machine.{Moment, Utters}
+use Rattle.sector_disk.specs.Machine.{Ledger, Moment, Utters}
 use Rattle.fsd_files.specs.Answers.{keep_given, least_pages, size_fault}
 use Rattle.fsd_files.specs.Disk.{Image, Sectors, Touches, nowhere}
 use Rattle.fsd_files.specs.declared.reply.Reply.{Reply}
@@ -37,6 +38,7 @@ use Rattle.volume_turns.specs.Commands.{HasDamaged, KeepsState, LacksRoom, MayLo
 use Rattle.volume_turns.specs.Once.{unit_of}
 use Rattle.volume_turns.specs.Line.{EndsWith}
 use Rattle.volume_turns.specs.Steps.{IsToldOn, ended_by, read_ended_by}
+use Rattle.volume_turns.specs.Syncs.{SyncsOnce}
 use Rattle.volume_turns.specs.Turns.{KeepsSaid, SaysAll, Unsaid}
 use Rattle.volume_turns.proofs.OrderLaws.{delete_all, edit_rest, few_best, keep_small, put_rest, starts_up, steps_of}
 use Rattle.volume_turns.proofs.StatusLaws.{look_up_ends, loss_looks}
@@ -50,7 +52,7 @@ then_worn may a b c windows first worn = touches_then may may may a b c (λ s ou
 pub worn_first : (a b c : Moment) → b.windows ≡ a.windows → IsWorn (open_damage a.windows) a.image b.image → Touches nowhere b c → Touches nowhere a c
 worn_first a b c windows worn then = touches_then nowhere nowhere nowhere a b c (λ s out. out) (λ s out. out) windows (worn_touches nowhere a b worn) then
 
-touches_ages : (a b : Moment) → b.windows ≡ a.windows → Touches nowhere a b → Ages a b
+pub touches_ages : (a b : Moment) → b.windows ≡ a.windows → Touches nowhere a b → Ages a b
 touches_ages a b windows t = record { image = record { size = t.size; each = λ s. t.others s refl }; windows = windows }
 
 pub stays_damaged : (a b : Moment) (s : ℕ) → Touches nowhere a b → HasDamaged a.image s → HasDamaged b.image s
@@ -244,6 +246,14 @@ idle_by s none = by s.down (nat_lt 0 (length s.dirty)) (ap (λ (x : List ℕ). n
 
 pub closed_still : {D : Type 0} (now : D → Moment) (s : State) (a m : D) → (IsTrue (is_idle (force_steps s)) → m ≡ a) → s.dirty ≡ [] → Touches nowhere (now a) (now m)
 closed_still {D = D} now s a m idle none = subst (λ (x : D). Touches nowhere (now a) (now x)) (sym (idle (idle_by s none))) (record { size = refl; others = λ n out. inl refl })
+
+pub closed_unwritten : {D : Type 0} (M : Ghosts D) (s : State) (a m : D) → (IsTrue (is_idle (force_steps s)) → m ≡ a) → s.dirty ≡ [] → (M.ledger m).written ≡ (M.ledger a).written
+closed_unwritten {D = D} M s a m idle none = ap (λ (x : D). (M.ledger x).written) (idle (idle_by s none))
+
+-- a text that is said writes no sector
+pub said_unwritten : (syncs : Bool) (x y : Ledger) → SyncsOnce syncs x y → y.written ≡ x.written
+said_unwritten syncs x y (inl same) = ap (λ (l : Ledger). l.written) same
+said_unwritten syncs x y (inr once) = ap (λ (l : Ledger). l.written) once.1
 
 -- a text behind a volume that was closed
 pub closed_by : {T : Type 0} (s : State) (text : List ℕ) (a m b : Moment) (r : Result T Halt) → m.windows ≡ a.windows → m.said ≡ a.said → Touches (force_writes s.layout) a m → (s.dirty ≡ [] → Touches nowhere a m) → Ages m b → SaysBy text m b r → (r ≡ Err (Stopped Ends.WornOut) → ⊥) → ((why : Fault) → r ≡ Err (Stopped why) → IsToldOn AreOfPage s.layout b.image why) → ClosesBy s text a b r

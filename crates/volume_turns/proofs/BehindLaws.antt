@@ -1,5 +1,5 @@
 -- A run behind its mount: over the volume that was mounted, or by the line of the fault that refused it.
-use Rattle.std.proofs.Common.{◌≡◌, ℕ, ◌≤◌, Bool, false, List, [], Option, None, ◌∙◌, subst}
+use Rattle.std.proofs.Common.{◌≡◌, inl, inr, ℕ, ◌≤◌, Bool, false, List, [], Option, None, ◌∙◌, subst, arith}
 use Rattle.std.specs.Prelude.{IsSome, IsTrue, Ok, Err, slice_get}
 use Rattle.volume_layout.specs.declared.layout.Layout.{Layout}
 use Rattle.sector_disk.specs.declared.machine.Machine.{Ghosts}
@@ -21,10 +21,11 @@ use Rattle.fsd_runs.specs.declared.request.Request.{Request}
 use Rattle.fsd_runs.specs.Errands.{errand_of}
 use Rattle.fsd_runs.specs.Leaves.{IsSoundAsSaid, LeavesRun, Was}
 use Rattle.fsd_runs.specs.Runs.{turns_of}
-use Rattle.volume_contract.specs.Mount.{IsFound, IsRefused, IsSoundAt, KeepsAll, MountsSound, UnsoundFor}
+use Rattle.volume_contract.specs.Mount.{CountsMount, IsFound, IsRefused, IsSoundAt, KeepsAll, MountsSound, UnsoundFor}
 use Rattle.volume_contract.specs.State.{IsNew, Known, Stands, State, forced_of, none_open, volume_of}
 use Rattle.volume_turns.specs.Answering.{EndsOne, RunsOne, SaysNoReply}
 use Rattle.volume_turns.specs.Causes.{FailsInput, SaysFaultAt, SaysOfCall, SaysOfInput, TellsImage, is_of_fault}
+use Rattle.volume_turns.specs.Healing.{EndsHealed, HealsOver, IfScrub, is_of_answer}
 use Rattle.volume_turns.specs.Line.{EndsWith, IsStatusFor, is_unsaid}
 use Rattle.volume_turns.specs.Once.{end_by_mount}
 use Rattle.volume_turns.specs.Status.{CountsRun, CountsTaking}
@@ -33,6 +34,7 @@ use Rattle.volume_turns.specs.Turns.{OnDisk}
 use Rattle.volume_turns.specs.Whole.{RunsOut}
 use Rattle.volume_turns.proofs.AnsweringLaws.{fault_alone, run_mounted, run_refused}
 use Rattle.volume_turns.proofs.CauseLaws.{MaySpend, input_since, tells_mounted, tells_refused}
+use Rattle.volume_turns.proofs.HealLaws.{heals_mounted}
 use Rattle.volume_turns.proofs.LastLaws.{mount_fault}
 use Rattle.volume_turns.proofs.StatusLaws.{counts_after, fails_behind, mount_counts, mount_of_volume, script_counts, script_counts_after}
 use Rattle.volume_turns.specs.Syncs.{SyncsUpTo}
@@ -78,6 +80,20 @@ module _ {S D : Type 0} {state : S → State} {M : Ghosts D} {sectors : ℕ} {v 
   over_one command status h ends =
       let back = x.trust.honest h in
       run_mounted command sectors (state v) (M.now a) (M.now m) (M.now b) status (x.found back) (over_said h) (x.rest back) ends
+
+  -- the volume stands where the disk was sound
+  sound_stood : (has : S → Mounted → List Placed → Type 0) (was : Was) → MountsSound state has was.layout was.windows was.changes was.forced (M.left_since m) (M.moment a) (λ P. LeavesOnly M.moment M.left_since a m P) (M.now a) (M.now m) (Ok v) → (k : Known) × Stands state has v k (M.now m)
+  sound_stood has was (l, said, inl before) = absurd before.why
+  sound_stood has was (l, said, inr settled) = (settled.known, settled.ends)
+
+  pub over_heals : (has : S → Mounted → List Placed → Type 0) (command : Command) (status : ℕ) → M.honest b → (M.honest b → Since M m b) → ((y : D) → M.honest y → IsTimed M y)
+      → ((was : Was) → IsSoundAt sectors was.layout was.windows was.changes was.forced (M.now a) → MountsSound state has was.layout was.windows was.changes was.forced (M.left_since m) (M.moment a) (λ P. LeavesOnly M.moment M.left_since a m P) (M.now a) (M.now m) (Ok v))
+      → (M.tells m → CountsMount (state v) (M.ledger a) (M.ledger m)) → EndsHealed M state has command v m b status → IsTrue (is_of_answer status) → IfScrub command (HealsOver M sectors a b)
+  over_heals has command status h since timed sound counts ends of =
+      let back = x.trust.honest h in
+      let here = since h (M.moment m) (M.now m) (omega arith) (timed m back).here in
+      heals_mounted M state has sectors v a m b command status (x.found back) (over_said h) ((timed b h).history.sooner (M.moment a) (M.moment m) (M.now m) (x.disk.later back) here)
+      (λ was. sound_stood has was.0 (sound was.0 was.1)) (λ t. counts (x.trust.tells t)) ends of
 
   -- where it takes the input
   pub over_fails : M.tells b → FailsInput (M.ledger m).input (M.report m) (M.report b) → FailsInput (M.ledger a).input (M.report a) (M.report b)

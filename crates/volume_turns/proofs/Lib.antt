@@ -16,6 +16,7 @@ pub mod GetLaws
 pub mod GroupEndLaws
 pub mod GroupLaws
 pub mod HaltLaws
+pub mod HealLaws
 pub mod InputLaws
 pub mod LastLaws
 pub mod LineLaws

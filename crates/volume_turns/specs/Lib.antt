@@ -6,6 +6,7 @@ pub mod Did
 pub mod Each
 pub mod Generate
 pub mod Group
+pub mod Healing
 pub mod Last
 pub mod Line
 pub mod Listing

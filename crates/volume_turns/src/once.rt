@@ -1,9 +1,10 @@
 //! One command by itself over a mounted volume, to its reply.
-ghost use Rattle.std.specs.Prelude.{◌≡◌, ◌≤◌, None, Err, IfErr, IfOk, IsTrue, false, ℕ};
+ghost use Rattle.std.specs.Prelude.{◌≡◌, ◌≤◌, [], None, Err, IfErr, IfOk, IsTrue, false, ℕ};
 ghost use Rattle.fsd_runs.specs.Commands.{reply_alone, reply_status};
 ghost use Rattle.volume_turns.specs.Answering.{AnswersAlone, ClosesBy};
 ghost use Rattle.volume_turns.specs.Once.{ClosesAndSays, IsAlone, close_fault, end_by_mount, unit_of};
 ghost use Rattle.volume_turns.specs.Commands.{IsStatusFrom};
+ghost use Rattle.volume_turns.specs.Healing.{HealsAlone, IfScrub};
 ghost use Rattle.volume_contract.specs.State.{Known, Stands, is_worn, none_open, volume_of, forced_of};
 ghost use Rattle.volume_contract.specs.Upgrade.{is_fresh};
 ghost use Rattle.volume_turns.specs.Steps.{is_upgrade};
@@ -44,6 +45,7 @@ pub(crate) fn close_and_say<M: Machine, V: Files<M>>(
     ensures speaks { Speaks M.Machine 1 m.old m.new result }
     ensures closing { M.honest m.new → ClosesBy (V.state v) text.now (M.now m.old) (M.now m.new) result }
     ensures wants { (V.state v).down ≡ None → IfErr result WantsNone }
+    ensures written { (V.state v).dirty ≡ [] → M.tells m.new → (M.ledger m.new).written ≡ (M.ledger m.old).written }
     ensures closes { M.honest m.new → (k : Known) (f : ℕ) → Stands V.state V.holds v k (M.now m.old) → OnDisk M.Machine k f m.old → ClosesAndSays M.Machine k f text.now m.old m.new result }
 {
     match v.close(m) {
@@ -77,6 +79,7 @@ pub(crate) fn close_as<M: Machine, V: Files<M> + Drop, T: Says>(
     ensures undone { result ≡ Err (Stopped Ends.Memory) → m.new ≡ m.old }
     ensures status { IfOk result (λ status. status ≡ reply_status answer.now) }
     ensures speaks { Speaks M.Machine 1 m.old m.new result }
+    ensures written { (V.state v).dirty ≡ [] → M.tells m.new → (M.ledger m.new).written ≡ (M.ledger m.old).written }
     ensures closing { M.honest m.new → ClosesBy (V.state v) (T.errand.says answer.now) (M.now m.old) (M.now m.new) (unit_of result) }
     ensures closes { M.honest m.new → (k : Known) (f : ℕ) → Stands V.state V.holds v k (M.now m.old) → OnDisk M.Machine k f m.old → ClosesAndSays M.Machine k f (T.errand.says answer.now) m.old m.new (unit_of result) }
 {
@@ -104,6 +107,7 @@ pub fn alone<M: Machine, V: Files<M> + Drop, T: Says>(
     ensures speaks { Speaks M.Machine 1 m.old m.new result }
     ensures status { IfOk result (IsStatusFrom c.now) }
     ensures answers { M.honest m.new → AnswersAlone c.now (V.state v) (M.now m.old) (M.now m.new) result }
+    ensures heals { M.honest m.new → (V.state v).dirty ≡ [] → IfOk result (λ status. IfScrub c.now (HealsAlone M.Machine V.state V.holds v m.old m.new)) }
     ensures does { M.honest m.new → (k : Known) → (volume_of k).unforced ≡ 0 → k.opened ≡ none_open → Stands V.state V.holds v k (M.now m.old) → OnDisk M.Machine k (forced_of k) m.old → IsAlone M.Machine c.now k m.old m.new result }
 {
     match c {
@@ -127,6 +131,7 @@ fn answer_alone<M: Machine, V: Files<M> + Drop, T: Says>(
     ensures speaks { Speaks M.Machine 1 m.old m.new result }
     ensures status { IfOk result (IsStatusFrom c.now) }
     ensures answers { M.honest m.new → AnswersAlone c.now (V.state v) (M.now m.old) (M.now m.new) result }
+    ensures heals { M.honest m.new → (V.state v).dirty ≡ [] → IfOk result (λ status. IfScrub c.now (HealsAlone M.Machine V.state V.holds v m.old m.new)) }
     ensures does { M.honest m.new → (k : Known) → (volume_of k).unforced ≡ 0 → k.opened ≡ none_open → Stands V.state V.holds v k (M.now m.old) → OnDisk M.Machine k (forced_of k) m.old → IsAlone M.Machine c.now k m.old m.new result }
 {
     let mut v = v;

@@ -56,7 +56,7 @@ returns-in-Ok g c =
       };
       one = λ h none. let back = does.ends.trust.honest h in
           subst (λ (x : List ℕ). SaysOne (Word.Put c.args.name x c.args.keep) (M.now a) (M.now b) status) (came.whole (g.met.M.Machine.honest_tells m back))
-          (one_since (Word.Put c.args.name bytes c.args.keep) (M.now a) (M.now m) (M.now b) status (read.exit back).said (does.one h none).says);
+          (one_since (Word.Put c.args.name bytes c.args.keep) (M.now a) (M.now m) (M.now b) status (read.exit back).said (does.one h none).one.says);
       runs = λ h k none idle stands on. let back = does.ends.trust.honest h in let short = g.met.M.Machine.short a (read.trust.honest back) in
           let timed = timed_by M g.met.M.Machine.dated g.met.M.Machine.history g.met.M.Machine.counts_now g.met.M.Machine.only_now in
           let at_a = timed a (read.trust.honest back) in

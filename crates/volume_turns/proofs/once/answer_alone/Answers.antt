@@ -10,6 +10,7 @@ use Rattle.volume_turns.specs.Commands.{IsStatusFrom}
 use Rattle.volume_turns.proofs.StatusLaws.{status_at}
 use Rattle.volume_turns.specs.Answering.{ClosesBy}
 use Rattle.volume_turns.proofs.AnsweringLaws.{alone_closed, alone_ended}
+use Rattle.volume_turns.proofs.HealLaws.{alone_heals}
 use Rattle.volume_turns.proofs.once.answer_alone.Goals as goal
 
 pub returns-in-Ok-clause-does : goal.returns-in-Ok-clause-does
@@ -68,3 +69,22 @@ returns-in-Err-clause-answers g c h =
     let now = g.M.Machine.now in
     let e = c.in-Err.ensures in
     alone_ended c.args.c.now (V.state c.args.v) (V.state c.answer.new.v) (now c.args.m.now) (now c.answer.new.m) (e.disk.windows h) (e.disk.quiet h) c.in-Err.fault (e.tells.answers h)
+
+-- ---- what is healed
+
+pub returns-in-Ok-clause-heals : goal.returns-in-Ok-clause-heals
+returns-in-Ok-clause-heals g c h clean =
+    let V = g.V.Files in
+    let M = g.M.Machine in
+    let back = c.close_as.ensures.speaks.trust.honest h in
+    let e = c.in-Ok.ensures in
+    let v = c.args.v in
+    let w = c.answer.new.v in
+    let m = c.answer.new.m in
+    alone_heals V.state V.holds V.resident g.met.V.Files.wears v w (M.now c.args.m.now) (M.now m) (M.now c.close_as.new.m) (g.met.M.Machine.short m back) (e.disk.windows back) (e.disk.quiet back) clean
+    (M.tells c.close_as.new.m) (M.ledger c.args.m.now) (M.ledger m) (M.ledger c.close_as.new.m) c.args.c.now c.in-Ok.answer c.close_as.result (e.tells.answers back) (e.tells.because back) (λ k stands. e.done back k stands)
+    (λ t. e.tells.written (c.close_as.ensures.speaks.trust.tells t)) c.close_as.ensures.written
+    (subst (λ (says : Reply → List ℕ). ClosesBy (V.state w) (says c.in-Ok.answer) (M.now m) (M.now c.close_as.new.m) (unit_of c.close_as.result)) c.requires.says (c.close_as.ensures.closing h))
+
+pub returns-in-Err-clause-heals : goal.returns-in-Err-clause-heals
+returns-in-Err-clause-heals g c h clean = tt

@@ -1,4 +1,4 @@
-use Rattle.std.proofs.Common.{◌≤◌, refl, subst}
+use Rattle.std.proofs.Common.{◌≤◌, ◌∙◌, refl, subst}
 use Rattle.fsd_sound.specs.Writes.{force_writes}
 use Rattle.fsd_texts.specs.declared.fault.Fault.{Fault}
 use Rattle.fsd_texts.specs.declared.fault.Fault.TheVariants as Ends
@@ -6,7 +6,7 @@ use Rattle.scrub.specs.Telling.{AreOfPage}
 use Rattle.volume_turns.specs.Once.{close_fault}
 use Rattle.volume_turns.specs.Steps.{IsToldOn}
 use Rattle.volume_turns.specs.Turns.{SaysAll, Unsaid}
-use Rattle.volume_turns.proofs.AnsweringLaws.{closed_by, closed_still, says_so}
+use Rattle.volume_turns.proofs.AnsweringLaws.{closed_by, closed_still, closed_unwritten, said_unwritten, says_so}
 use Rattle.volume_turns.proofs.ApartLaws.{fault_is}
 use Rattle.volume_turns.proofs.InputLaws.{close_of_call, device_close}
 use Rattle.volume_turns.proofs.LineLaws.{close_wants, wants_not}
@@ -44,6 +44,7 @@ returns-in-Ok g c =
           (says_so text (M.now m) (M.now b) result (on_ok_said (SaysAll text (M.now m) (M.now b)) result h say.said) unsaid) (wants_not Ends.WornOut tt result say.wants)
           (unsaid_told AreOfPage s.layout (M.now b).image (M.now m) (M.now b) result unsaid);
       wants = λ up. say.wants;
+      written = λ clean t. said_unwritten _ (M.ledger m) (M.ledger b) (say.says.ledger t) ∙ closed_unwritten M s a m e.order.idle clean;
       closes = λ h k f stands on. let back = say.says.trust.honest h in
           close_said V.state V.holds M c.args.v a m b k f stands on text (force_writes s.layout) _ disk back (timed a (disk.trust.honest back)) (timed m back) (e.done back k stands) (g.met.M.Machine.short m back) (timed b h) (say.says.since h) (say.moments h)
           result (on_ok_said (SaysAll text (M.now m) (M.now b)) result h say.said) (on_ok_said ((M.now m).time ≤ (M.now b).synced) result h say.synced) (on_err_said (Unsaid (M.now m) (M.now b)) result h say.unsaid);
@@ -70,6 +71,7 @@ returns-in-Err g c =
         unworn = λ is. close_unworn refused (fault_is _ (close_fault refused) Ends.WornOut refl is);
         told = λ why is. subst (λ (w : Fault). IsToldOn AreOfPage s.layout (M.now m).image w) (fault_is _ (close_fault refused) why refl is) (close_told s s (V.resident c.args.v) (M.now a) (M.now m) refl refused (e.causes h));
       };
+      written = λ clean t. closed_unwritten M s a m e.order.idle clean;
       wants = λ up. close_wants refused (force_loss s up _ refused e.order.follows);
       closes = λ h k f stands on. close_failed V.state V.holds M c.args.v a m m k f stands on c.args.text.now (force_writes s.layout) _ disk h (timed a (disk.trust.honest h)) (timed m h) refused (e.done h k stands);
     })

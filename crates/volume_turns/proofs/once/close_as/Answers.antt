@@ -1,4 +1,4 @@
-use Rattle.std.proofs.Common.{ℕ, List, ◌∙◌, subst}
+use Rattle.std.proofs.Common.{ℕ, List, ◌∙◌, refl, subst}
 use Rattle.std.specs.Prelude.{Result, Ok, Err}
 use Rattle.volume_turns.specs.declared.turns.Halt.{Halt}
 use Rattle.volume_turns.specs.Once.{ClosesAndSays}
@@ -34,3 +34,14 @@ pub returns-clause-closes : goal.returns-clause-closes
 returns-clause-closes g c h k f stands on =
     let r : Result (Unit {0}) Halt = Err c.in-Err.end in
     subst (λ (x : List ℕ). ClosesAndSays g.M.Machine k f x c.args.m.now c.close_and_say.new.m r) (c.as_slice.ensures.value ∙ c.in-Ok.ensures) (c.in-Err.ensures.closes h k f stands on)
+
+-- ---- what is written
+
+pub returns-in_default-clause-written : goal.returns-in_default-clause-written
+returns-in_default-clause-written g c clean t = refl
+
+pub returns-in-Ok-close_and_say-clause-written : goal.returns-in-Ok-close_and_say-clause-written
+returns-in-Ok-close_and_say-clause-written g c clean t = c.in-Ok-close_and_say.ensures.written clean t
+
+pub returns-clause-written : goal.returns-clause-written
+returns-clause-written g c clean t = c.in-Err.ensures.written clean t

@@ -5,6 +5,7 @@ use Rattle.volume_turns.specs.declared.turns.Halt.TheVariants.{Fault as Stopped}
 use Rattle.volume_turns.specs.Commands.{MayLose}
 use Rattle.volume_turns.proofs.AnsweringLaws.{one_failed, one_replied, one_unheard}
 use Rattle.volume_turns.proofs.CauseLaws.{call_says}
+use Rattle.volume_turns.proofs.HealLaws.{fault_unhealed}
 use Rattle.volume_turns.proofs.LastLaws.{ends_fault, fault_not, reply_not, told_place}
 use Rattle.volume_turns.proofs.OneLaws.{one_broken, one_said, one_unsaid}
 use Rattle.volume_turns.proofs.RunLaws.{since_on}
@@ -39,7 +40,7 @@ returns-in-Ok g c =
         spent = λ nine. from_not 9 command status (omega arith) (λ e. omega (arith, e)) does.status nine;
       };
       since = does.speaks.since;
-      one = λ h none. one_replied command (g.V.Files.state c.args.v) (M.now a) (M.now b) none status (does.answers h);
+      one = λ h none. record { one = one_replied command (g.V.Files.state c.args.v) (M.now a) (M.now b) none status (does.answers h); heals = λ of. does.heals h none };
       runs = λ h rest k none idle stands disk. one_said M command rest k a b status (does.does h k none idle stands disk);
     }
 
@@ -75,7 +76,7 @@ returns-in-Err-Fault g c =
             cc (worn, c.requires.unworn);
       };
       since = since_on M a p b line.says.trust.honest does.speaks.since does.speaks.later line.says.since;
-      one = λ h none. one_failed command s (M.now a) (M.now p) none (M.now b) came.why status (does.answers (line.says.trust.honest h)) (line.says.exit h) (line.ends h);
+      one = λ h none. record { one = one_failed command s (M.now a) (M.now p) none (M.now b) came.why status (does.answers (line.says.trust.honest h)) (line.says.exit h) (line.ends h); heals = λ of. absurd (fault_unhealed came.why status line.status of) };
       runs = λ h rest k none idle stands disk. let back = line.says.trust.honest h in
           let timed = timed_by M g.met.M.Machine.dated g.met.M.Machine.history g.met.M.Machine.counts_now g.met.M.Machine.only_now in
           one_broken M command rest k a p b (line.says.since h) h (g.met.M.Machine.short p back) stands.ends (does.answers back).windows (timed p back) (timed b h) came.why (does.does back k none idle stands disk) does.speaks.told status line.says (line.ends h);
@@ -105,6 +106,6 @@ returns-in-Err-Output g c =
         spent = λ nine. omega (arith, nine);
       };
       since = does.speaks.since;
-      one = λ h none. one_unheard command (g.V.Files.state c.args.v) (M.now a) (M.now b) none (does.answers h);
+      one = λ h none. record { one = one_unheard command (g.V.Files.state c.args.v) (M.now a) (M.now b) none (does.answers h); heals = λ of. absurd (cc of) };
       runs = λ h rest k none idle stands disk. one_unsaid M command rest k a b (does.does h k none idle stands disk) does.speaks.told;
     }

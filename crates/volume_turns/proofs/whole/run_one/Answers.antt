@@ -2,7 +2,8 @@ use Rattle.std.proofs.Common.{false, None, []}
 use Rattle.fsd_runs.specs.declared.request.Request.TheVariants.{One}
 use Rattle.volume_turns.specs.Commands.{MayLose}
 use Rattle.volume_turns.proofs.OneLaws.{some_one}
-use Rattle.volume_turns.proofs.BehindLaws.{RefusedBy, RunsOver, over_counts, over_image, over_leaves, over_one, over_trust, over_syncs, refused_counts, refused_image, refused_last, refused_leaves, refused_of, refused_one, refused_trust, refused_syncs}
+use Rattle.volume_turns.proofs.BehindLaws.{RefusedBy, RunsOver, over_counts, over_heals, over_image, over_leaves, over_one, over_trust, over_syncs, refused_counts, refused_image, refused_last, refused_leaves, refused_of, refused_one, refused_trust, refused_syncs}
+use Rattle.volume_turns.proofs.HealLaws.{fault_unhealed}
 use Rattle.volume_turns.proofs.SayLaws.{timed_by}
 use Rattle.volume_turns.proofs.StatusLaws.{fault_is_one}
 use Rattle.volume_turns.proofs.UpgradeLaws.{new_fresh}
@@ -28,7 +29,9 @@ returns-in-Ok g c =
         counts = over_counts x does.takes.counts;
       };
       image = λ h. over_image x false (MayLose c.args.c.now) None c.one_on.result h (λ three. (does.tells h).says three) (λ nine. (does.tells h).spent nine);
-      one = λ h. over_one x c.args.c.now c.one_on.result h (does.one h e.opens.fresh.dirty);
+      one = λ h. over_one x c.args.c.now c.one_on.result h (does.one h e.opens.fresh.dirty).one;
+      healed = λ h. over_heals x g.V.Files.holds c.args.c.now c.one_on.result h does.since (timed_by M g.met.M.Machine.dated g.met.M.Machine.history g.met.M.Machine.counts_now g.met.M.Machine.only_now)
+          (λ was. e.sound (does.ends.trust.honest h) was.layout was.windows was.changes was.forced) e.opens.counted (does.one h e.opens.fresh.dirty);
       leaves = λ h rest was at held.
           over_leaves x g.V.Files.holds (One c.args.c.now) [] rest was c.one_on.result h does.since (λ y t. g.met.M.Machine.counts_now y t) (timed_by M g.met.M.Machine.dated g.met.M.Machine.history g.met.M.Machine.counts_now g.met.M.Machine.only_now) held (e.sound (does.ends.trust.honest h) was.layout was.windows was.changes was.forced at)
           (λ k none idle stands disk. does.runs h rest k none idle stands disk);
@@ -55,6 +58,7 @@ returns-in-Err g c =
       };
       image = refused_image x false (MayLose c.args.c.now) None;
       one = refused_one x c.args.c.now;
+      healed = λ h of. absurd (fault_unhealed why status line.status of);
       leaves = λ h rest was at held.
           refused_leaves x g.V.Files.state g.V.Files.holds (One c.args.c.now) [] rest was h (g.met.M.Machine.short c.mount.new.m) (λ y t. g.met.M.Machine.counts_now y t)
           (timed_by M g.met.M.Machine.dated g.met.M.Machine.history g.met.M.Machine.counts_now g.met.M.Machine.only_now) at held (e.sound (line.says.trust.honest h) was.layout was.windows was.changes was.forced at) (some_one c.args.c.now);
