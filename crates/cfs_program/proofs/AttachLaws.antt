@@ -1,5 +1,5 @@
 -- A run behind its attach: over the image that was found, or by the line of the fault.
-use Rattle.std.proofs.Common.{◌≡◌, ◌⊎◌, inl, inr, ℕ, ◌≤◌, Bool, false, List, ◌++◌, Option, Err, sym, ◌∙◌, ap, arith}
+use Rattle.std.proofs.Common.{◌≡◌, ◌⊎◌, inl, inr, ℕ, ◌+◌, ◌≤◌, Bool, false, List, ◌++◌, Option, Err, sym, ◌∙◌, ap, arith}
 use Rattle.std.specs.Prelude.{IsFalse, IsTrue}
 use Rattle.volume_layout.specs.declared.layout.Layout.{Layout}
 use Rattle.sector_disk.specs.declared.machine.Attach.TheVariants.{Old}
@@ -10,10 +10,14 @@ use Rattle.sector_disk.specs.Image.{AreShort}
 use Rattle.sector_disk.specs.Machine.{Before, DiskCause, Elapses, Ledger, Trusts, Utters, Wears, asked_for}
 use Rattle.sector_disk.proofs.Holding.{trusts_on}
 use Rattle.sector_disk.proofs.Lags.{held_synced}
+use Rattle.fsd_files.specs.declared.reply.Reply.TheVariants as Said
+use Rattle.fsd_texts.specs.declared.command.Command.{Command}
+use Rattle.fsd_texts.specs.declared.command.Command.TheVariants as Word
 use Rattle.fsd_texts.specs.declared.fault.Fault.TheVariants as Ends
 use Rattle.fsd_texts.specs.declared.line.Line.TheVariants as Lines
 use Rattle.fsd_texts.specs.Text.{fault_text}
 use Rattle.fsd_runs.specs.declared.request.Request.{Request}
+use Rattle.fsd_runs.specs.Commands.{reply_alone}
 use Rattle.fsd_runs.specs.Errands.{IfMounts}
 use Rattle.fsd_runs.specs.Leaves.{IsSoundAsSaid, LeavesRun, Was}
 use Rattle.fsd_runs.proofs.SafeLaws.{never_refused}
@@ -21,13 +25,14 @@ use Rattle.volume_contract.specs.Mount.{IsSoundAt}
 use Rattle.volume_contract.specs.State.{Ages}
 use Rattle.volume_turns.specs.Answering.{SaysNoReply}
 use Rattle.volume_turns.specs.Causes.{FailsInput, SaysFaultAt, SaysOfInput, TellsImage, is_of_fault}
+use Rattle.volume_turns.specs.Healing.{HealsOver, IfScrub, WritesMounting}
 use Rattle.volume_turns.specs.Line.{EndsWith, IsStatusAs, is_unsaid}
 use Rattle.volume_turns.specs.Status.{CountsNone, CountsRun, CountsTaking}
 use Rattle.volume_turns.proofs.AnsweringLaws.{fault_alone}
 use Rattle.volume_turns.proofs.CauseLaws.{input_since}
 use Rattle.volume_turns.proofs.LastLaws.{ends_fault}
 use Rattle.cfs_program.specs.Formatting.{AsksAtMost, CountsFaults}
-use Rattle.cfs_program.specs.Opening.{AcceptsSound, FindsImage, IsSoundDisk, is_from_outside, mount_asks}
+use Rattle.cfs_program.specs.Opening.{AcceptsSound, FindsImage, HealsFound, IsSoundDisk, is_from_outside, mount_asks}
 use Rattle.cfs_program.proofs.CountsLaws.{CountsReading, counts_failed, counts_opened, reading_of, reading_opened}
 use Rattle.cfs_program.proofs.EndedLaws.{ended_run}
 use Rattle.cfs_program.proofs.FoundLaws.{TellsFound, fails_attached, failed_not, tells_found, untouched_unfound}
@@ -39,6 +44,14 @@ use Rattle.cfs_program.proofs.OpeningLaws.{finds_keep, opened_run, said_disk, so
 pub record RunsFound {D : Type 0} (M : Ghosts D) (path : List ℕ) (sectors : ℕ) (a b z : D) : Type 0 where
   pub finds : FindsImage M path sectors a b
   pub runs : Trusts (M.tells b) (M.tells z) (M.honest b) (M.honest z)
+
+-- an attach writes nothing
+mounting_asked : (path : List ℕ) (l m n : Ledger) (layout : Layout) (healed : ℕ) → m ≡ asked_for l path Old → WritesMounting layout m n healed → WritesMounting layout l n healed
+mounting_asked path l m n layout healed asked writes = record {
+  mounting = writes.mounting;
+  most = writes.most;
+  written = record { healed = writes.written.healed; tells = writes.written.tells; written = writes.written.written ∙ ap (λ (k : Ledger). k.written + (writes.mounting + writes.written.healed)) asked };
+}
 
 module _ {D : Type 0} {M : Ghosts D} {path : List ℕ} {sectors : ℕ} {a b z : D} (x : RunsFound M path sectors a b z) where
   pub found_trust : Trusts (M.tells a) (M.tells z) (M.honest a) (M.honest z)
@@ -73,6 +86,34 @@ module _ {D : Type 0} {M : Ghosts D} {path : List ℕ} {sectors : ℕ} {a b z : 
 
   pub found_image : (script : Bool) (AreCopies : Layout → ℕ → ℕ → Type 0) (made : Option ℕ) (status : ℕ) → M.honest z → TellsImage script AreCopies made sectors (M.now b) (M.now z) status → TellsFound script AreCopies made (M.now a) (M.now z) status
   found_image script AreCopies made status h tells = let back = x.runs.honest h in tells_found script AreCopies made (M.now a) (M.now b) (M.now z) sectors status (x.finds.found back) (x.finds.size back) tells
+
+  -- what a scrub has healed
+  pub found_heals : (command : Command) → M.honest z → (M.honest a → AreShort (M.now a).windows) → ((m : D) → M.honest m → IsTimed M m)
+      → IfScrub command (HealsOver M sectors b z) → IfScrub command (HealsFound M a z)
+  found_heals Word.Scrub h short timed y =
+      let back = x.runs.honest h in
+      let found = x.finds.found back in
+      record {
+        at = M.now b;
+        found = found;
+        sectors = sectors;
+        size = x.finds.size back;
+        holds = record {
+          volume = y.volume;
+          mounted = y.mounted;
+          passed = (timed z h).history.sooner (M.moment a) (M.moment b) y.mounted (found_later h) y.passed;
+          windows = y.windows;
+          heals = record {
+            found = y.heals.found;
+            healed = y.heals.healed;
+            said = y.heals.said ∙ ap (λ (s : List ℕ). s ++ reply_alone (Said.Scrubbed y.heals.found y.heals.healed)) (found_said h);
+            written = λ t. mounting_asked path (M.ledger a) (M.ledger b) (M.ledger z) y.volume.layout y.heals.healed (x.finds.asked (x.runs.tells t)) (y.heals.written t);
+            twins = y.heals.twins;
+            leaders = λ was. y.heals.leaders (was.0, sound_found was.0.layout was.0.windows was.0.changes was.0.forced (M.now a) was.1 (short (x.finds.trust.honest back)) (M.now b) (finds_keep (M.now a) (M.now b) found) sectors (x.finds.size back));
+          };
+        };
+      }
+  found_heals command h short timed y = tt
 
   -- where it takes the input
   pub found_fails : M.tells z → FailsInput (M.ledger b).input (M.report b) (M.report z) → FailsInput (M.ledger a).input (M.report a) (M.report z)

@@ -217,6 +217,7 @@ module _ {D : Type 0} (M : Ghosts D) where
       accepted = λ h l windows changes f sound three. never 3 (λ e. omega (arith, e)) (λ e. omega (arith, e)) (λ e. omega (arith, e)) d.status three;
       spent = λ nine h. absurd (never 9 (λ e. omega (arith, e)) (λ e. omega (arith, e)) (λ e. omega (arith, e)) d.status nine);
       last = λ of h. tt;
+      healed = λ of h. tt;
       all = λ none h. tt;
       image = λ none h. tt;
       untouched = d.ages;

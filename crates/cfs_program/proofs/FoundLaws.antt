@@ -13,6 +13,7 @@ use Rattle.cfs_program.proofs.FormatLaws.{untouched_by}
 use Rattle.sector_disk.specs.Machine.{Finds, Wears, Moment, Report, Rose, Utters}
 use Rattle.fsd_texts.specs.Script.{max_input}
 use Rattle.volume_turns.specs.Causes.{FailsInput, HasSpent, HasVolume, SaysCause, TellsImage, is_of_mounted}
+use Rattle.volume_turns.specs.Healing.{is_of_answer}
 use Rattle.volume_turns.specs.Line.{IsStatusAs}
 use Rattle.cfs_program.specs.Opening.{AsFound, WritesFound, is_from_outside}
 
@@ -54,6 +55,11 @@ untouched_unfound line old mid new wears utters =
 pub not_mounted : (gives result : ℕ) → IsStatusAs gives result → IsFalse (is_of_mounted gives) → IsTrue (is_of_mounted result) → ⊥
 not_mounted gives result (inl is) other any = let at : IsTrue (is_of_mounted gives) = subst (λ (n : ℕ). IsTrue (is_of_mounted n)) is any in cc (at, other)
 not_mounted gives result (inr six) other any = let at : IsTrue (is_of_mounted 6) = subst (λ (n : ℕ). IsTrue (is_of_mounted n)) six any in cc at
+
+-- nor is it that of an answer
+pub not_answered : (gives result : ℕ) → IsStatusAs gives result → IsFalse (is_of_answer gives) → IsTrue (is_of_answer result) → ⊥
+not_answered gives result (inl is) other any = let at : IsTrue (is_of_answer gives) = subst (λ (n : ℕ). IsTrue (is_of_answer n)) is any in cc (at, other)
+not_answered gives result (inr six) other any = let at : IsTrue (is_of_answer 6) = subst (λ (n : ℕ). IsTrue (is_of_answer n)) six any in cc at
 
 -- a call of the outside failed, or memory was refused before anything was done
 outside_not : (gives result : ℕ) → IsTrue (is_from_outside gives) → IsStatusAs gives result → IsFalse (is_from_outside result) → ⊥

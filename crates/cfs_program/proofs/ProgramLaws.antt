@@ -38,7 +38,7 @@ use Rattle.cfs_program.proofs.AmongLaws.{one_at}
 use Rattle.cfs_program.proofs.AttachLaws.{EndsUnfound, unfound_ages, unfound_alone, unfound_asks, unfound_counts, unfound_last, unfound_leaves, unfound_outside, unfound_reading, unfound_trust}
 use Rattle.cfs_program.proofs.CountsLaws.{input_alone, spares_none}
 use Rattle.cfs_program.proofs.EndedLaws.{ended_run}
-use Rattle.cfs_program.proofs.FoundLaws.{inside_not, not_mounted}
+use Rattle.cfs_program.proofs.FoundLaws.{inside_not, not_answered, not_mounted}
 use Rattle.cfs_program.proofs.FormatLaws.{untouched_by}
 
 -- ---- a line alone
@@ -101,6 +101,7 @@ module _ {D : Type 0} (M : Ghosts D) (path : List ℕ) (a b : D) (line : Line) (
     rest = λ h. tt;
     trust = says.trust;
     says = λ h. inl (subst IsSaid is (line_says line 2 (M.now a) (M.now b) result (says.exit h) (ends h)));
+    healed = λ of h. tt;
     mounted = λ any h. tt;
     refused = λ three h. absurd (not_as 3 2 result (λ e. omega (arith, e)) (λ e. omega (arith, e)) status three);
     accepted = λ h l windows changes f sound three. not_as 3 2 result (λ e. omega (arith, e)) (λ e. omega (arith, e)) status three;
@@ -221,6 +222,7 @@ module _ {D : Type 0} (M : Ghosts D) (request : Request) (path : List ℕ) (a b 
     rest = λ h. memory_rest request (M.now a) (M.now b) (untouched_by (Lines.Ended Ends.Memory) (M.now a) (M.now b) (says.exit h));
     trust = says.trust;
     says = λ h. inr (line_says (Lines.Ended Ends.Memory) 7 (M.now a) (M.now b) result (says.exit h) (ends h), untouched_by (Lines.Ended Ends.Memory) (M.now a) (M.now b) (says.exit h));
+    healed = λ of h. absurd (not_answered 7 result status refl of);
     mounted = λ any h. absurd (not_mounted 7 result status refl any);
     refused = λ three h. absurd (not_as 3 7 result (λ e. omega (arith, e)) (λ e. omega (arith, e)) status three);
     accepted = λ h l windows changes f sound three. not_as 3 7 result (λ e. omega (arith, e)) (λ e. omega (arith, e)) status three;
@@ -273,6 +275,7 @@ module _ {D : Type 0} {M : Ghosts D} {path : List ℕ} {failed : Failed} {a b z 
       says = λ h. inl no_answer;
       one = λ h. memory_one request (M.ledger a).input (M.now a) (M.now z) status (unfound_alone x h);
       rest = λ h. memory_rest request (M.now a) (M.now z) (unfound_ages x h);
+      healed = λ of h. absurd (not_answered 4 status x.for refl of);
       mounted = λ any h. absurd (not_mounted 4 status x.for refl any);
       refused = λ three h. absurd (not_as 3 4 status (λ e. omega (arith, e)) (λ e. omega (arith, e)) x.for three);
       last = λ of h. if_mounts request _ (unfound_last x of h);
@@ -349,6 +352,7 @@ ran_format M n t p kind path a b result e = record {
   spelled = λ zero t. tt;
   trust = e.trust;
   says = λ h. inl (e.says h);
+  healed = λ of h. tt;
   mounted = λ any h. tt;
   refused = λ three h. absurd (format_not 3 (plan kind n t p) result e.status (λ e. omega (arith, e)) (λ e. omega (arith, e)) (λ e. omega (arith, e)) (λ e. omega (arith, e)) three);
   accepted = λ h l windows changes f sound three. format_not 3 (plan kind n t p) result e.status (λ e. omega (arith, e)) (λ e. omega (arith, e)) (λ e. omega (arith, e)) (λ e. omega (arith, e)) three;

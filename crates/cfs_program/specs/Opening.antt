@@ -10,8 +10,10 @@ use Rattle.sector_disk.specs.Machine.{Asked, Before, DiskCause, Elapses, Finds, 
 use Rattle.fsd_files.specs.Files.{Change}
 use Rattle.fsd_sound.specs.Sound.{EndIn, IsSound}
 use Rattle.fsd_texts.specs.declared.command.Command.{Command}
+use Rattle.fsd_runs.specs.Leaves.{Was}
 use Rattle.volume_contract.specs.State.{Ages}
 use Rattle.volume_turns.specs.Answering.{WritesOne}
+use Rattle.volume_turns.specs.Healing.{HealsMounted, WritesMounting}
 
 -- the attach that a command asks for: an image that is there
 abbrev pub mount_asks : List ℕ → List Asked
@@ -46,6 +48,14 @@ pub record AsFound (P : ℕ → Moment → Type 0) (old : Moment) : Type 0 where
 -- nothing is written, or no more than a mount and the command write
 abbrev pub WritesFound : Command → (old new : Moment) → Type 0
 WritesFound command old new = Ages old new ⊎ AsFound (λ sectors at. WritesOne command sectors at new) old
+
+-- the image was sound
+abbrev pub WasSound : (old : Moment) → Type 0
+WasSound old = (was : Was) × IsSoundDisk was.layout was.windows was.changes was.forced old
+
+-- what a scrub has healed of the image that the attach found
+abbrev pub HealsFound : {D : Type 0} → Ghosts D → (a b : D) → Type 0
+HealsFound M a b = AsFound (λ sectors at. HealsMounted (M.left_since b (M.moment a)) (WasSound (M.now a)) (λ l healed. M.tells b → WritesMounting l (M.ledger a) (M.ledger b) healed) sectors (M.now a).said at (M.now b)) (M.now a)
 
 -- An attach has found the image of a path, which has so many sectors, as far as they are counted.
 pub record FindsImage {D : Type 0} (M : Ghosts D) (path : List ℕ) (sectors : ℕ) (a b : D) : Type 0 where

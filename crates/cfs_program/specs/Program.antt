@@ -26,10 +26,11 @@ use Rattle.scrub.specs.Telling.{AreOfPage}
 use Rattle.volume_turns.specs.Answering.{SaysOne}
 use Rattle.volume_turns.specs.Causes.{FailsInput, HasSpent, HasVolume, SaysCause, SaysFaultAt, SaysMade, SaysOfInput, is_of_fault, is_of_mounted}
 use Rattle.volume_turns.specs.Each.{SaysBadLine, SaysForced}
+use Rattle.volume_turns.specs.Healing.{IfScrub, is_of_answer}
 use Rattle.volume_turns.specs.Status.{CountsInput, CountsNone, is_unfailed, is_quiet}
 use Rattle.volume_turns.specs.Commands.{MayLose}
 use Rattle.volume_turns.specs.Syncs.{most_in_script}
-use Rattle.cfs_program.specs.Opening.{AcceptsSound, AsFound, AsksOrNot, IsSoundDisk, WritesFound, is_from_outside, mount_asks}
+use Rattle.cfs_program.specs.Opening.{AcceptsSound, AsFound, AsksOrNot, HealsFound, IsSoundDisk, WritesFound, is_from_outside, mount_asks}
 
 -- ---- statuses
 
@@ -174,6 +175,11 @@ abbrev pub WritesAlone : Request → (old new : Moment) → Type 0
 WritesAlone (One command) old new = WritesFound command old new
 WritesAlone request old new = ⊤
 
+-- where it is a scrub
+abbrev pub IfScrubs : Request → Type 0 → Type 0
+IfScrubs (One command) P = IfScrub command P
+IfScrubs request P = ⊤
+
 -- After status 0, by what each moment since the last sync has, the present one among them: so a stop behind a format leaves
 -- its volume.
 abbrev pub HoldsAfter : Request → (Held : (Moment → Type 0) → Type 0) → Type 0
@@ -223,6 +229,7 @@ pub record Ran {D : Type 0} (M : Ghosts D) (request : Request) (path : List ℕ)
   pub says : M.honest b → SaysAnswer request (M.report b).fault_place (M.now a) (M.now b) result ⊎ SaysMemory (M.now a) (M.now b) result
   pub one : M.honest b → SaysAlone request (M.ledger a).input (M.now a) (M.now b) result
   pub rest : M.honest b → WritesAlone request (M.now a) (M.now b)
+  pub healed : IsTrue (is_of_answer result) → M.honest b → IfScrubs request (HealsFound M a b)
   pub mounted : IsTrue (is_of_mounted result) → M.honest b → IfMounts request (AsFound HasVolume (M.now a))
   pub refused : result ≡ 3 → M.honest b → AsFound (λ sectors at. SaysCause (is_script request) (RunMayLose request) sectors at (M.now b)) (M.now a)
   pub last : IsTrue (is_of_fault result) → M.honest b → IfMounts request (SaysFaultAt (M.report b).fault_place (M.now b) result)

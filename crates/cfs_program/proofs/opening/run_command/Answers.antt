@@ -5,7 +5,7 @@ use Rattle.volume_turns.specs.Commands.{MayLose}
 use Rattle.volume_turns.proofs.SayLaws.{timed_by}
 use Rattle.volume_turns.proofs.StatusLaws.{one_not_five}
 use Rattle.cfs_program.proofs.AmongLaws.{command_complete, command_status}
-use Rattle.cfs_program.proofs.AttachLaws.{RunsFound, found_accepted, found_attaches, found_counts, found_image, found_input, found_leaves, found_said, found_spared, found_syncs, found_trust}
+use Rattle.cfs_program.proofs.AttachLaws.{RunsFound, found_accepted, found_attaches, found_counts, found_heals, found_image, found_input, found_leaves, found_said, found_spared, found_syncs, found_trust}
 use Rattle.cfs_program.proofs.FoundLaws.{TellsFound, writes_found}
 use Rattle.cfs_program.proofs.opening.run_command.Goals as goal
 
@@ -33,6 +33,7 @@ returns-in-Ok g c =
       attached = λ inside t. found_attaches x t (does.takes.ledger t).attaches;
       trust = found_trust x;
       says = λ h. inl tt;
+      healed = λ of h. found_heals x command h (g.met.M.Machine.short a) timed (does.healed h of);
       mounted = λ any h. (image h).mounted any;
       refused = λ three h. (image h).refused three;
       spent = λ nine h. (image h).spent nine;

@@ -35,6 +35,7 @@ returns-in-Ok g c =
       attached = λ inside t. found_attaches x t (does.takes.attaches t);
       trust = found_trust x;
       says = λ h. inl tt;
+      healed = λ of h. tt;
       mounted = λ any h. (image h).mounted any;
       refused = λ three h. (image h).refused three;
       spent = λ nine h. (image h).spent nine;
