@@ -17,6 +17,14 @@ pub(crate) fn giving(
     Ok(m.again(events.to_vec(alloc)?, input.to_vec(alloc)?))
 }
 
+// Whether what was read is a command that reads the version with this key.
+fn is_get(read: &Option<ScriptCommand>, text: &[u8]) -> bool {
+    match read {
+        Some(ScriptCommand::Plain(command)) => gets(command, text),
+        _ => false,
+    }
+}
+
 // Whether the command reads the version with this key.
 fn gets(command: &Command, text: &[u8]) -> bool {
     match command {
@@ -39,11 +47,8 @@ fn goes_on_after_a_failure(rt: HostRuntime) -> Result<(), Fail> {
     let mut reader = Reader::new(alloc);
     let failed = reader.next_command(alloc, &mut m).err();
     assert_eq!(rt; failed, Some(ScriptFault::Input));
-    let is_read = match reader.next_command(alloc, &mut m) {
-        Ok(Some(ScriptCommand::Plain(command))) => gets(&command, b"a!1"),
-        _ => false,
-    };
-    assert!(rt; is_read);
+    let read = reader.next_command(alloc, &mut m).unwrap_or_default();
+    assert!(rt; is_get(&read, b"a!1"));
     Ok(())
 }
 
