@@ -5,5 +5,6 @@ pub mod Finding
 pub mod HomeLaws
 pub mod Homes
 pub mod Looking
+pub mod Moving
 pub mod Opening
 pub mod Surveying

@@ -21,10 +21,10 @@ use Rattle.fsd_formats.specs.declared.entry.Entry.{Entry}
 use Rattle.fsd_formats.specs.Leader.{leader_of, leader_bytes}
 use Rattle.fsd_formats.specs.NamePage.{max_keep, max_length, sectors_for}
 use Rattle.fsd_files.specs.Disk.{Image, Sectors, Has}
-use Rattle.fsd_files.specs.Files.{File, Change, step, new_key, new_keep, gone_keys}
+use Rattle.fsd_files.specs.Files.{File, Change, step, new_key, new_keep, gone_keys, moved_keep, gone_by_move}
 use Rattle.fsd_files.specs.Kept.{FirstDamaged, IsWhole, KeptIn, range_sectors}
 use Rattle.fsd_files.specs.declared.reply.Reply.{Reply}
-use Rattle.fsd_files.specs.declared.reply.Reply.TheVariants.{Refused, Made, Deleted, Kept, Listed, Bytes, DamagedAt, Forced, Counts, Scrubbed, Upgraded, Found}
+use Rattle.fsd_files.specs.declared.reply.Reply.TheVariants.{Refused, Made, Deleted, Kept, Moved, Listed, Bytes, DamagedAt, Forced, Counts, Scrubbed, Upgraded, Found}
 use Rattle.fsd_files.specs.Volume.{Volume, plans_of, free_runs, free_count, waiting_count, pages_free, place_for, forced, forced_for_place, forced_if, drawn, entries_at, entries_without}
 
 -- a reply, and the volume as it leaves it
@@ -174,6 +174,37 @@ abbrev pub keep_outcome : Met → Volume → List ℕ → (keep : ℕ) → Outco
 keep_outcome met v name keep =
     let at = forced_if met.forces v in
     if nat_lt max_keep keep then refused v (KeepTooLarge keep) else keep_set at name keep met.reached (highest_entry name at.entries)
+
+-- ---- moving one to another name
+
+-- the entry of the version then: its bytes, runs and serial stay
+abbrev pub moved_entry : Volume → List ℕ → Entry → Entry
+moved_entry v name e = record e { key = new_key name v.files; keep = moved_keep name e.keep v.files }
+
+-- the version has its new key, and what goes beyond the keep waits; r pages are reached then
+abbrev pub with_version_moved : Volume → Key → List ℕ → File → Entry → ℕ → Volume
+with_version_moved v key name x e r =
+    let out = gone_by_move key name x v.files in
+    record v {
+      files = step v.files (Change.Move key name);
+      entries = entries_without (key ∷ out) (entry_put (moved_entry v name e) v.entries);
+      removed = v.removed ++ gone_sectors out v.entries;
+      reached = r;
+      unforced = suc v.unforced;
+    }
+
+abbrev pub moved_unless : Option Refusal → Volume → Key → List ℕ → File → Entry → ℕ → Outcome
+moved_unless (Some why) v key name x e r = refused v why
+moved_unless None v key name x e r = (Moved key (new_key name v.files), with_version_moved v key name x e r)
+
+abbrev pub moved : Volume → Key → List ℕ → ℕ → Option File → Option Entry → Outcome
+moved v key name r (Some x) (Some e) = moved_unless (enter_fault v name) v key name x e r
+moved v key name r x e = refused v NoSuch
+
+abbrev pub move_outcome : Met → Volume → Key → List ℕ → Outcome
+move_outcome met v key name =
+    let at = forced_if met.forces v in
+    moved at key name met.reached (find key_cmp key at.files) (entry_of key at.entries)
 
 -- ---- forces: a tick and a close are forces too
 

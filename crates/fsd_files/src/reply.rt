@@ -17,6 +17,11 @@ pub enum Reply {
         key: Key,
         keep: u32,
     },
+    /// A version has another key now.
+    Moved {
+        from: Key,
+        to: Key,
+    },
     Listed(Items<Entry>),
     Bytes {
         key: Key,

@@ -5,11 +5,11 @@ use Rattle.std.specs.List.{flat_map, list_any}
 use Rattle.fsd_bytes.specs.declared.key.Key.{Key}
 use Rattle.fsd_bytes.specs.Keys.{key_text}
 use Rattle.fsd_formats.specs.NamePage.{max_keep, sectors_for}
-use Rattle.fsd_files.specs.Answers.{Met, Outcome, put_outcome, delete_outcome, keep_outcome, force_outcome, scrub_outcome, upgrade_outcome, stat_reply, list_reply, get_reply, keep_given, size_fault, FindsDamageIn}
+use Rattle.fsd_files.specs.Answers.{Met, Outcome, put_outcome, delete_outcome, keep_outcome, move_outcome, force_outcome, scrub_outcome, upgrade_outcome, stat_reply, list_reply, get_reply, keep_given, size_fault, FindsDamageIn}
 use Rattle.fsd_files.specs.Disk.{Image}
 use Rattle.fsd_files.specs.Files.{Change}
 use Rattle.fsd_files.specs.declared.reply.Reply.{Reply}
-use Rattle.fsd_files.specs.declared.reply.Reply.TheVariants.{Refused, Made, Deleted, Kept, Listed, Bytes, DamagedAt, Forced, Counts, Scrubbed, Upgraded, Begun, Took, Dropped, Opened, Given, Done, Found}
+use Rattle.fsd_files.specs.declared.reply.Reply.TheVariants.{Refused, Made, Deleted, Kept, Moved, Listed, Bytes, DamagedAt, Forced, Counts, Scrubbed, Upgraded, Begun, Took, Dropped, Opened, Given, Done, Found}
 use Rattle.fsd_files.specs.Scrub.{Picks, all_data}
 use Rattle.fsd_files.specs.Volume.{Volume}
 use Rattle.fsd_texts.specs.declared.command.Command.{Command}
@@ -24,6 +24,7 @@ abbrev pub answer : Met → Volume → Command → Outcome
 answer met v (Word.Put name bytes keep) = put_outcome met v name bytes keep
 answer met v (Word.Delete key) = delete_outcome met v key
 answer met v (Word.Keep name keep) = keep_outcome met v name keep
+answer met v (Word.Move key name) = move_outcome met v key name
 answer met v (Word.List pattern) = (list_reply v pattern, v)
 answer met v (Word.Get key) = (get_reply met v key, v)
 answer met v Word.Force = force_outcome v
@@ -37,6 +38,7 @@ abbrev pub may_wear_out : Command → Bool
 may_wear_out (Word.Put name bytes keep) = is_none (size_fault (keep_given keep) (length bytes))
 may_wear_out (Word.Delete key) = true
 may_wear_out (Word.Keep name keep) = not (nat_lt max_keep keep)
+may_wear_out (Word.Move key name) = true
 may_wear_out (Word.List pattern) = false
 may_wear_out (Word.Get key) = false
 may_wear_out Word.Force = false
@@ -50,6 +52,7 @@ abbrev pub MayFind : Image → Image → Volume → Command → Met → Type 0
 MayFind i j v (Word.Put name bytes keep) met = ⊤
 MayFind i j v (Word.Delete key) met = ⊤
 MayFind i j v (Word.Keep name keep) met = ⊤
+MayFind i j v (Word.Move key name) met = ⊤
 MayFind i j v (Word.List pattern) met = ⊤
 MayFind i j v (Word.Get key) met = FindsDamageIn i j v key met.damaged
 MayFind i j v Word.Force met = ⊤
@@ -66,6 +69,8 @@ changes_of (Word.Delete key) (Deleted k) = Change.Delete key ∷ []
 changes_of (Word.Delete key) reply = []
 changes_of (Word.Keep name keep) (Kept key k) = Change.SetKeep name keep ∷ []
 changes_of (Word.Keep name keep) reply = []
+changes_of (Word.Move key name) (Moved k to) = Change.Move key name ∷ []
+changes_of (Word.Move key name) reply = []
 changes_of (Word.List pattern) reply = []
 changes_of (Word.Get key) reply = []
 changes_of Word.Force reply = []
@@ -98,6 +103,7 @@ reply_text (Refused why) = text (Says.Refused why)
 reply_text (Made key sectors) = line (codes "made" ∷ key_text key ∷ number sectors ∷ [])
 reply_text (Deleted key) = line (codes "deleted" ∷ key_text key ∷ [])
 reply_text (Kept key keep) = line (codes "kept" ∷ key_text key ∷ number keep ∷ [])
+reply_text (Moved key to) = line (codes "moved" ∷ key_text key ∷ key_text to ∷ [])
 reply_text (Listed entries) = flat_map (λ e. version_text e.key e.length e.keep) entries ++ listed_text (length entries)
 reply_text (Bytes key bytes) = line (codes "bytes" ∷ key_text key ∷ number (length bytes) ∷ []) ++ bytes ++ newline
 reply_text (DamagedAt key s) = damaged_text key s
@@ -136,6 +142,7 @@ abbrev pub reply_statuses : Command → List ℕ
 reply_statuses (Word.Put name bytes keep) = 0 ∷ 1 ∷ []
 reply_statuses (Word.Delete key) = 0 ∷ 1 ∷ []
 reply_statuses (Word.Keep name keep) = 0 ∷ 1 ∷ []
+reply_statuses (Word.Move key name) = 0 ∷ 1 ∷ []
 reply_statuses (Word.List pattern) = 0 ∷ []
 reply_statuses (Word.Get key) = 0 ∷ 1 ∷ 8 ∷ []
 reply_statuses Word.Force = 0 ∷ []

@@ -41,6 +41,7 @@ cfs = record {
       ∷ subcommand (codes "list") (image ∷ positional (codes "pat") ∷ [])
       ∷ subcommand (codes "delete") (image ∷ positional (codes "key") ∷ [])
       ∷ subcommand (codes "keep") (image ∷ positional (codes "name") ∷ positional (codes "k") ∷ [])
+      ∷ subcommand (codes "move") (image ∷ positional (codes "key") ∷ positional (codes "name") ∷ [])
       ∷ subcommand (codes "stat") (image ∷ [])
       ∷ subcommand (codes "scrub") (image ∷ [])
       ∷ subcommand (codes "upgrade") (image ∷ [])
@@ -94,6 +95,12 @@ reads_keep rows = do
   keep ← number_in (field (codes "k") rows)
   Ok (One (Word.Keep name keep))
 
+abbrev pub reads_move : List Row → Result Request Cause
+reads_move rows = do
+  key ← key_in (field (codes "key") rows)
+  name ← name_in (field (codes "name") rows)
+  Ok (One (Word.Move key name))
+
 abbrev pub reads_generate : List Row → Result Request Cause
 reads_generate rows = do
   seed ← seed_in (field (codes "seed") rows)
@@ -109,13 +116,14 @@ reads_fields name rows =
     else (if same_bytes name (codes "list") then (pattern_in (field (codes "pat") rows) >>= λ pattern. Ok (One (Word.List pattern)))
     else (if same_bytes name (codes "delete") then (key_in (field (codes "key") rows) >>= λ key. Ok (One (Word.Delete key)))
     else (if same_bytes name (codes "keep") then reads_keep rows
+    else (if same_bytes name (codes "move") then reads_move rows
     else (if same_bytes name (codes "stat") then Ok (One Word.Stat)
     else (if same_bytes name (codes "scrub") then Ok (One Word.Scrub)
     else (if same_bytes name (codes "upgrade") then Ok (One Word.Upgrade)
     else (if same_bytes name (codes "script") then Ok Script
     else (if same_bytes name (codes "generate") then reads_generate rows
     else (if same_bytes name (codes "drill") then Ok Drill
-    else Ok NoCommand)))))))))))
+    else Ok NoCommand))))))))))))
 
 -- ---- the words
 

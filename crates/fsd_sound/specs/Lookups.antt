@@ -5,9 +5,15 @@ use Rattle.fsd_bytes.specs.declared.key.Key.{Key}
 use Rattle.fsd_formats.specs.declared.entry.Entry.{Entry}
 use Rattle.fsd_formats.specs.NamePage.{Leaf}
 use Rattle.fsd_table.specs.Pages.{content_fits, keys_fit, not_below}
-use Rattle.fsd_table.specs.Reached.{BeginsWith, ReachesPage}
+use Rattle.fsd_table.specs.Reached.{BeginsWith, HasEntry, ReachesPage}
 use Rattle.fsd_table.specs.Table.{Visit}
 use Rattle.fsd_files.specs.Answers.{entry_after, entry_of}
+
+-- a leaf that keeps within its bounds, and has an entry of the key
+pub record HasKey (key : Key) (v : Visit) : Type 0 where
+  pub entry : Entry
+  pub there : HasEntry entry v
+  pub of_key : entry.key ≡ key
 
 -- a leaf that keeps within its bounds, between which the key stands, and that has no entry of it
 pub record LacksKey (key : Key) (v : Visit) : Type 0 where

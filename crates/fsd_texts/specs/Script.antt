@@ -74,6 +74,13 @@ asks_keep (name ∷ keep ∷ []) = do
   Ok (Plainly (Word.Keep n k))
 asks_keep other = Err WordCount
 
+abbrev pub asks_move : List (List ℕ) → Result Asking Cause
+asks_move (key ∷ name ∷ []) = do
+  k ← key_in key
+  n ← name_in name
+  Ok (Plainly (Word.Move k n))
+asks_move other = Err WordCount
+
 abbrev pub with_no_field : Command → List (List ℕ) → Result Asking Cause
 with_no_field command [] = Ok (Plainly command)
 with_no_field command other = Err WordCount
@@ -144,9 +151,10 @@ asks word fields =
     if same_bytes word (codes "put") then asks_put fields
     else (if same_bytes word (codes "delete") then with_field key_in Word.Delete fields
     else (if same_bytes word (codes "keep") then asks_keep fields
+    else (if same_bytes word (codes "move") then asks_move fields
     else (if same_bytes word (codes "list") then with_field pattern_in Word.List fields
     else (if same_bytes word (codes "get") then with_field key_in Word.Get fields
-    else asks_alone word fields))))
+    else asks_alone word fields)))))
 
 -- a line of no bytes has one word of none
 abbrev pub asked_by : List (List ℕ) → Result Asking Cause

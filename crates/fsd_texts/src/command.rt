@@ -20,6 +20,11 @@ pub enum Command {
         name: FileName,
         keep: u32,
     },
+    /// The version of this key becomes the name's next one.
+    Move {
+        key: Key,
+        name: FileName,
+    },
     List(Pattern),
     Get(Key),
     Force,

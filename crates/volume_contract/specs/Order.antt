@@ -181,6 +181,9 @@ module _ (s : State) where
   abbrev pub keep_steps : ℕ → List CallStep
   keep_steps keep = down ∷ keep_size keep ∷ worn ∷ by_itself ∷ LookUp ∷ Asks Why.NoSuch ∷ []
 
+  abbrev pub move_steps : List CallStep
+  move_steps = down ∷ worn ∷ by_itself ∷ LookUp ∷ Asks Why.NoSuch ∷ Asks Why.VersionsUsedUp ∷ table_full ∷ Fetch ∷ []
+
   abbrev pub entry_steps : List CallStep
   entry_steps = down ∷ LookUp ∷ Asks Why.NoSuch ∷ []
 

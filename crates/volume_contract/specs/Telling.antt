@@ -14,7 +14,7 @@ use Rattle.fsd_files.specs.Answers.{HasLeader}
 use Rattle.fsd_files.specs.Disk.{Image}
 use Rattle.fsd_files.specs.Scrub.{CountsTwins, FindsLeader}
 use Rattle.volume_contract.specs.declared.files.Forced.{Forced}
-use Rattle.fsd_sound.specs.Lookups.{LacksKey, LacksLater}
+use Rattle.fsd_sound.specs.Lookups.{HasKey, LacksKey, LacksLater}
 use Rattle.volume_contract.specs.Found.{ShowsReached, HasRange, ShowsReachedNext}
 use Rattle.volume_contract.specs.Behind.{IsBehindForce}
 use Rattle.volume_contract.specs.Causes.{Causes, IsTaken}
@@ -50,6 +50,19 @@ module _ {D : Type 0} (M : Ghosts D) (resident : ℕ → Option (List ℕ)) (old
     pub name : IfOk result (λ key. key.name ≡ given)
     pub memory : HasEnough old resident given → result ≡ Err Why.Memory → ⊥
     pub causes : Causes M resident old new before now result
+
+  -- that a version of this key is taken out: a leaf that was reached has an entry of it
+  pub record TellsGone {T : Type 0} (given : Key) (result : Result T Refusal) : Type 0 where
+    pub causes : Causes M resident old new before now result
+    pub found : OnOk result (ShowsReached M resident old new before now (HasKey given))
+
+  -- the key that a version of this key has then, as a version of the name: a leaf that was reached has an entry of the
+  -- old one, or lacks it where it is refused as none
+  pub record TellsMoved (given : Key) (name : List ℕ) (result : Result Key Refusal) : Type 0 where
+    pub named : IfOk result (λ to. to.name ≡ name)
+    pub causes : Causes M resident old new before now result
+    pub absent : result ≡ Err Why.NoSuch → ShowsReached M resident old new before now (LacksKey given)
+    pub found : IfOk result (λ to. ShowsReached M resident old new before now (HasKey given))
 
   -- an entry of this key, alone or with more; none of its sectors is free
   pub record TellsEntry {T : Type 0} (given : Key) (entry_in : T → Entry) (result : Result T Refusal) : Type 0 where

@@ -12,20 +12,20 @@ ghost use Rattle.fsd_bytes.specs.Keys.{key_cmp};
 ghost use Rattle.fsd_formats.specs.NamePage.{sectors_for};
 ghost use Rattle.fsd_log.specs.Scan.{Placed};
 ghost use Rattle.fsd_files.specs.Files.{Change};
-ghost use Rattle.fsd_files.specs.declared.reply.Reply.TheVariants.{Forced as IsForced, Deleted};
-ghost use Rattle.fsd_files.specs.Answers.{entry_of, entry_reply, next_reply, put_outcome, delete_outcome, keep_outcome, force_outcome};
+ghost use Rattle.fsd_files.specs.declared.reply.Reply.TheVariants.{Forced as IsForced, Deleted, Moved};
+ghost use Rattle.fsd_files.specs.Answers.{entry_of, entry_reply, next_reply, put_outcome, delete_outcome, keep_outcome, move_outcome, force_outcome};
 ghost use Rattle.fsd_files.specs.Kept.{data_sectors};
 ghost use Rattle.fsd_files.specs.Scrub.{leader_place, Sees, leader_count, slice_place};
 ghost use Rattle.fsd_sound.specs.Sound.{is_twin};
 ghost use Rattle.fsd_sound.specs.Mounted.{Mounted, image_at};
 ghost use Rattle.volume_contract.specs.State.{State, Known, Ages, WritesTold, WritesWithin, volume_of, Stands, HasCounted, IsForced as HasForced, HeldVersion, Leaves, put_writes, force_len, change_len, put_len, forces_first, forces_for_place, enters_again};
 ghost use Rattle.fsd_sound.specs.Writes.{force_writes};
-ghost use Rattle.volume_contract.specs.Order.{InOrder, IsDeviceRefusal, KeepsRefused, KeepsBy, put_steps, delete_steps, keep_steps, entry_steps, next_steps, read_steps, reserve_steps, slices_steps, enter_steps, held_steps, force_steps, heal_steps, single_steps, upgrade_steps, is_root, with_three};
+ghost use Rattle.volume_contract.specs.Order.{InOrder, IsDeviceRefusal, KeepsRefused, KeepsBy, put_steps, delete_steps, keep_steps, move_steps, entry_steps, next_steps, read_steps, reserve_steps, slices_steps, enter_steps, held_steps, force_steps, heal_steps, single_steps, upgrade_steps, is_root, with_three};
 ghost use Rattle.volume_contract.specs.Pieces.{IsDraft, IsHeldVersion, KeepsEnter, KeepsReserve, GivesBack, HoldsAt, Unholds, FitsDraft, reserve_len, slice_count, in_slices, in_leader, slices_in, slices_if, read_at, ended, with_opened, refusal_told, EndsReserve, EndsSlices, EndsEnter, EndsHold, ReadsHeld};
 ghost use Rattle.volume_contract.specs.Ends.{Ends, EndsPut, EndsForce, Closes, LooksUp, found_one, ReadsRange, kept_key, device_of};
 ghost use Rattle.volume_contract.specs.Causes.{Causes};
 ghost use Rattle.volume_contract.specs.Healing.{IsMet, LeavesWith, StandsStill};
-ghost use Rattle.volume_contract.specs.Telling.{TellsEntry, TellsForce, TellsHeld, TellsKept, TellsKey, TellsLeader, TellsNext, TellsRange, TellsTwins};
+ghost use Rattle.volume_contract.specs.Telling.{TellsEntry, TellsForce, TellsGone, TellsHeld, TellsKept, TellsKey, TellsMoved, TellsLeader, TellsNext, TellsRange, TellsTwins};
 ghost use Rattle.volume_contract.specs.Upgrade.{EndsUpgrade, RootsStand, is_fresh};
 ghost use Rattle.volume_contract.specs.Mount.{MountOpens, MountTells, MountHeals, MountsCalm, IsSoundAt, MountsSound};
 ghost use Rattle.fsd_sound.specs.Mounting.{device_of_mount};
@@ -114,7 +114,7 @@ pub trait Files<M: Machine>: Sized {
         ensures disk { WritesDisk M.Machine (device_in device_of result) (Leaves state holds self.old (force_writes (state self.old).layout)) m.old m.new }
         ensures writes { WritesWithin M.Machine (force_writes (state self.old).layout) (change_len (state self.old)) m.old m.new result }
         ensures keeps { let s = state self.old in KeepsBy (delete_steps s) (HasCounted false (forces_first s)) s (state self.new) result }
-        ensures causes { Causes M.Machine (resident self.old) (state self.old) (state self.new) m.old m.new result }
+        ensures tells { TellsGone M.Machine (resident self.old) (state self.old) (state self.new) m.old m.new key.now result }
         ensures done { M.honest m.new → (k : Known) → Stands state holds self.old k (M.now m.old) →
             Ends state holds (λ met. delete_outcome met (volume_of k) key.now) (λ x. Deleted key.now) (Change.Delete key.now) k self.new (M.now m.new) result };
 
@@ -129,6 +129,19 @@ pub trait Files<M: Machine>: Sized {
         ensures tells { TellsKept M.Machine (resident self.old) (state self.old) (state self.new) m.old m.new name.now result }
         ensures done { M.honest m.new → (k : Known) → Stands state holds self.old k (M.now m.old) →
             Ends state holds (λ met. keep_outcome met (volume_of k) name.now keep) (kept_key keep) (Change.SetKeep name.now keep) k self.new (M.now m.new) result };
+
+    /// Makes a version the next one of a name, and answers its new key. Its bytes, its sectors and its serial stay, and no
+    /// data sector is written. Whoever holds the version reads on. Its keep is that of the name's highest version, where
+    /// there is one, or stays; of the name's other versions the oldest goes where they are as many as the keep.
+    fn move_to(&mut self, m: &mut M, key: &Key, name: &FileName) -> Result<Key, Refusal>
+        requires { (state self.old).layout.sectors ≤ (M.report m.old).sectors }
+        ensures order { InOrder (move_steps (state self.old)) m.old m.new result }
+        ensures disk { WritesDisk M.Machine (device_in device_of result) (Leaves state holds self.old (force_writes (state self.old).layout)) m.old m.new }
+        ensures writes { WritesWithin M.Machine (force_writes (state self.old).layout) (change_len (state self.old)) m.old m.new result }
+        ensures keeps { let s = state self.old in KeepsBy (move_steps s) (HasCounted false (forces_first s)) s (state self.new) result }
+        ensures tells { TellsMoved M.Machine (resident self.old) (state self.old) (state self.new) m.old m.new key.now name.now result }
+        ensures done { M.honest m.new → (k : Known) → Stands state holds self.old k (M.now m.old) →
+            Ends state holds (λ met. move_outcome met (volume_of k) key.now name.now) (Moved key.now) (Change.Move key.now name.now) k self.new (M.now m.new) result };
 
     /// The entry of a version.
     fn entry(&mut self, m: &mut M, key: &Key) -> Result<Entry, Refusal>
