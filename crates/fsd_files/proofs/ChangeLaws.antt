@@ -94,14 +94,6 @@ parts_use p s (z ∷ entries) = by (p z) (parts_use p s entries)
 abbrev pub IsAbsent : Key → List Entry → Type 0
 IsAbsent key entries = AllByRecursion (λ z. key_cmp key z.key ≡ Equal → ⊥) entries
 
-turned_eq : (o : Ordering) → is_eq (ordering_reverse o) ≡ is_eq o
-turned_eq Less = refl
-turned_eq Equal = refl
-turned_eq Greater = refl
-
-pub same_key_turned : (a b : Key) → is_eq (key_cmp a b) ≡ same_key b a
-same_key_turned a b = ap is_eq (keys_total.antisymm a b) ∙ turned_eq (key_cmp b a)
-
 -- with one more entry
 record Puts (p : Entry → Bool) (s : ℕ) (e : Entry) (old new : List Entry) : Type 0 where
   most : used s (plans_of (filter p new)) ≤ occurs s (sectors_of e.runs) + used s (plans_of (filter p old))
