@@ -89,8 +89,12 @@ to_T : (b : Bool) → b ≡ true → T b
 to_T true is = tt
 to_T false is = absurd cc
 
--- no entry has the key of a new version
-pub new_key_is_new : (name : List ℕ) (s : Files) (entries : List Entry) → T (is_sorted key_cmp s) → Lists s entries → AllByRecursion (λ z. key_cmp (new_key name s) z.key ≡ Equal → ⊥) entries
+-- no entry has the key
+abbrev pub IsAbsent : Key → List Entry → Type 0
+IsAbsent key entries = AllByRecursion (λ z. key_cmp key z.key ≡ Equal → ⊥) entries
+
+-- that of a new version
+pub new_key_is_new : (name : List ℕ) (s : Files) (entries : List Entry) → T (is_sorted key_cmp s) → Lists s entries → IsAbsent (new_key name s) entries
 new_key_is_new name s entries sorted lists = by s entries (at_most_highest name None s (of_T (is_sorted key_cmp s) sorted)) lists
   where
     one : (y : Key × File) (z : Entry) → (IsOf name y → version_of y ≤ most_of (highest name s)) → z.key ≡ y.0 → key_cmp (new_key name s) z.key ≡ Equal → ⊥
@@ -101,7 +105,7 @@ new_key_is_new name s entries sorted lists = by s entries (at_most_highest name 
         let le = most (ap (same_bytes name) (sym named) ∙ is_same name) in
         omega (arith, version, le)
 
-    by : (t : Files) (entries : List Entry) → AllByRecursion (λ y. IsOf name y → version_of y ≤ most_of (highest name s)) t → Lists t entries → AllByRecursion (λ z. key_cmp (new_key name s) z.key ≡ Equal → ⊥) entries
+    by : (t : Files) (entries : List Entry) → AllByRecursion (λ y. IsOf name y → version_of y ≤ most_of (highest name s)) t → Lists t entries → IsAbsent (new_key name s) entries
     by [] [] all lists = tt
     by [] (z ∷ entries) all lists = absurd lists
     by (y ∷ t) [] all lists = absurd lists

@@ -24,7 +24,7 @@ use Rattle.fsd_files.specs.Files.{Change, File, Files, gone, gone_by_move, moved
 use Rattle.fsd_files.specs.Kept.{Lists}
 use Rattle.fsd_files.specs.Volume.{Volume, entries_at, entries_without, is_in, plans_of}
 use Rattle.fsd_files.proofs.CountLaws.{contains_occurs, occurs, occurs_contains, used, used-cons}
-use Rattle.fsd_files.proofs.FreshLaws.{differs, new_is_highest, new_key_is_new, of_T, stands_last}
+use Rattle.fsd_files.proofs.FreshLaws.{IsAbsent, differs, new_is_highest, new_key_is_new, of_T, stands_last}
 use Rattle.fsd_files.proofs.HistoryLaws.{keys_total}
 use Rattle.fsd_files.proofs.ListingLaws.{AreFound, alike_is, found_both, same_key_is, same_key_turned}
 
@@ -202,10 +202,6 @@ pub weight_length : (entries : List Entry) → length entries ≡ weight (λ run
 weight_length [] = refl
 weight_length (e ∷ entries) = omega (arith, weight_length entries)
 
--- no entry has the key
-abbrev pub IsAbsent : Key → List Entry → Type 0
-IsAbsent key entries = AllByRecursion (λ z. key_cmp key z.key ≡ Equal → ⊥) entries
-
 -- one more that passes the test
 module _ (p : Entry → Bool) (e : Entry) (passes : p e ≡ true) where
   first_passes : (rest : List Entry) → filter p (e ∷ rest) ≡ e ∷ filter p rest
@@ -289,3 +285,64 @@ module _ (f : List Run → ℕ) (key : Key) (out : List Key) where
           ∙ ap (λ (es : List Entry). f z.runs + weight f es) alone
           ∙ ap (λ (b : Bool). weight f (cond (not b) (z ∷ entries_without out entries) (entries_without out entries))) (sym (ap (λ (a : Key). list_any (same_key a) out) same ∙ stays))
       by false is of rest = beside (list_any (same_key z.key) out) (rest of)
+
+  none_left : (entries : List Entry) → entry_of key (entries_without (key ∷ out) entries) ≡ None
+  none_left [] = refl
+  none_left (z ∷ entries) = by (same_key z.key key) refl (list_any (same_key z.key) out) (none_left entries)
+    where
+      by : (b : Bool) → same_key z.key key ≡ b → (c : Bool) → entry_of key (entries_without (key ∷ out) entries) ≡ None
+          → entry_of key (cond (not (b || c)) (z ∷ entries_without (key ∷ out) entries) (entries_without (key ∷ out) entries)) ≡ None
+      by true is c rest = rest
+      by false is true rest = rest
+      by false is false rest = ap (λ (b : Bool). cond b (Some z) (entry_of key (entries_without (key ∷ out) entries))) is ∙ rest
+
+-- ---- a volume whose version has moved
+
+has_file : (key : Key) (e : Entry) (o : Option File) (p : Option Entry) → AreFound key o p → p ≡ Some e → (x : File) × (o ≡ Some x)
+has_file key e None None both found = absurd (cc found)
+has_file key e None (Some z) both found = absurd both
+has_file key e (Some x) None both found = absurd both
+has_file key e (Some x) (Some z) both found = (x, refl)
+
+alike_in : (s : ℕ) (ps qs : List (List Run)) → used s ps ≡ used s qs → is_in ps s ≡ is_in qs s
+alike_in s ps qs same = both_ways (is_in ps s) (is_in qs s)
+    (λ is. occurs_contains s (flat_map sectors_of qs) (let some = contains_occurs s (flat_map sectors_of ps) is in omega (arith, some, same)))
+    (λ is. occurs_contains s (flat_map sectors_of ps) (let some = contains_occurs s (flat_map sectors_of qs) is in omega (arith, some, same)))
+
+module _ (v : Volume) (key : Key) (name : List ℕ) (x : File) (e : Entry) (r : ℕ) (sorted : T (is_sorted key_cmp v.files)) (lists : Lists v.files v.entries) (found : entry_of key v.entries ≡ Some e) where
+  abbrev moved_volume : Volume
+  moved_volume = with_version_moved v key name x e r
+
+  abbrev by_keep : List Key
+  by_keep = gone_by_move key name x v.files
+
+  -- the new key is none that there is
+  pub new_differs : same_key (new_key name v.files) key ≡ false
+  new_differs =
+      let file = has_file key e (find key_cmp key v.files) (entry_of key v.entries) (found_both key v.files v.entries lists) found in
+      is_other key name file.0 v.files sorted file.1
+
+  passes : not (list_any (same_key (new_key name v.files)) (key ∷ by_keep)) ≡ true
+  passes = λ i. not (new_differs i || new_stays key name x v.files sorted new_differs i)
+
+  -- what goes by the keep goes, and nothing else
+  moved_weight : (f : List Run → ℕ) → weight f moved_volume.entries ≡ weight f (entries_without by_keep v.entries)
+  moved_weight f =
+      weight_put (λ z. not (list_any (same_key z.key) (key ∷ by_keep))) (moved_entry v name e) passes f v.entries (new_key_is_new name v.files v.entries sorted lists)
+      ∙ weight_without f key by_keep e v.files v.entries lists (of_T (is_sorted key_cmp v.files) sorted) (old_stays key name x v.files sorted) found
+
+  pub moved_used : (s : ℕ) → used s (plans_of moved_volume.entries) ≡ used s (plans_of (entries_without by_keep v.entries))
+  moved_used s = weight_used s moved_volume.entries ∙ moved_weight (λ runs. occurs s (sectors_of runs)) ∙ sym (weight_used s (entries_without by_keep v.entries))
+
+  pub moved_in : (s : ℕ) → is_in (plans_of moved_volume.entries) s ≡ is_in (plans_of (entries_without by_keep v.entries)) s
+  moved_in s = alike_in s (plans_of moved_volume.entries) (plans_of (entries_without by_keep v.entries)) (moved_used s)
+
+  pub moved_count : length moved_volume.entries ≡ length (entries_without by_keep v.entries)
+  moved_count = weight_length moved_volume.entries ∙ moved_weight (λ runs. 1) ∙ sym (weight_length (entries_without by_keep v.entries))
+
+  -- its entry is found by its new key, and none by the old one
+  pub moved_there : entry_of (new_key name v.files) moved_volume.entries ≡ Some (moved_entry v name e)
+  moved_there = entry_put_there (λ z. not (list_any (same_key z.key) (key ∷ by_keep))) (moved_entry v name e) passes v.entries (new_key_is_new name v.files v.entries sorted lists)
+
+  pub moved_away : entry_of key moved_volume.entries ≡ None
+  moved_away = none_left (λ runs. 0) key by_keep (entry_put (moved_entry v name e) v.entries)
