@@ -2,8 +2,7 @@
 use Rattle.std.proofs.Common.{◌≡◌, ◌⊎◌, inl, inr, ℕ, zero, suc, ◌+◌, ◌<◌, ◌≤◌, Bool, true, false, cond, List, [], ◌∷◌, ◌++◌, filter, take, Option, Some, None, Ordering, refl, sym, ap, subst, ◌∙◌, arith}
 use Rattle.std.specs.Prelude.{T, IsTrue, IsFalse, IfSome, nat_le, not, ◌&&◌, ◌||◌, ◌==◌}
 use Rattle.std.specs.FinMap.{is_sorted}
-use Rattle.std.specs.List.{AllByRecursion, flat_map, list_all, list_any}
-use Rattle.std.specs.Ordering.{is_eq, ordering_reverse}
+use Rattle.std.specs.List.{flat_map, list_all, list_any}
 use Rattle.std.specs.declared.cmp.Ordering.TheVariants.{Less, Equal, Greater}
 use Rattle.std.specs.FinMap.Entries.{by_order}
 use Rattle.std.proofs.lemmas.Bool.{and_parts, and_from, or_cases, or_parts, or_from, or_left, or_right, not-true, not_from_false, false_from_ne_true, both_ways, cases_lt, eqb-true, eq-eqb}
@@ -26,7 +25,6 @@ use Rattle.fsd_files.specs.Space.{Apart}
 use Rattle.fsd_files.specs.Volume.{Volume, plans_of, is_in, in_version, waits, is_free, forced, forced_if, drawn, place_for, entries_at, entries_without}
 use Rattle.fsd_files.specs.Waiting.{Changes, IsSpaced, are_same_or_apart, is_kept_alone, is_leader, is_let_go}
 use Rattle.fsd_files.proofs.CountLaws.{one_where, occurs, occurs-append, used, used-cons, contains_occurs, occurs_contains, differ_occurs, occurs_differ, picked_once}
-use Rattle.fsd_files.proofs.HistoryLaws.{keys_total}
 use Rattle.fsd_files.proofs.FreshLaws.{IsAbsent, new_key_is_new}
 use Rattle.fsd_files.proofs.ListingLaws.{entries_at_none, entries_without_none}
 use Rattle.fsd_files.proofs.MoveLaws.{moved_used}

@@ -1,32 +1,31 @@
 -- What goes where a version moves to another name, and what stays.
-use Rattle.std.proofs.Common.{◌≡◌, inl, inr, ℕ, zero, suc, ◌+◌, ◌-◌, ◌<◌, ◌≤◌, min, Bool, true, false, cond, List, [], ◌∷◌, ◌++◌, filter, length, map, take, Option, Some, None, Ordering, refl, sym, ap, subst, ◌∙◌, arith}
-use Rattle.std.specs.Prelude.{T, IsTrue, not, ◌||◌, ◌==◌}
+use Rattle.std.proofs.Common.{◌≡◌, ℕ, zero, suc, ◌+◌, ◌-◌, ◌≤◌, min, Bool, true, false, cond, List, [], ◌∷◌, ◌++◌, filter, length, map, take, Option, Some, None, Ordering, refl, sym, ap, subst, ◌∙◌, arith}
+use Rattle.std.specs.Prelude.{T, not, ◌||◌, ◌==◌}
 use Rattle.std.specs.Cmp.{both_ways}
-use Rattle.std.specs.FinMap.{find, is_sorted, put}
+use Rattle.std.specs.FinMap.{find, is_sorted}
 use Rattle.std.specs.FinMap.Entries.{below_all, by_order, find-put, find-where_key}
-use Rattle.std.specs.List.{AllByRecursion, flat_map, list_all, list_any}
+use Rattle.std.specs.List.{AllByRecursion, flat_map, list_any}
 use Rattle.std.specs.Ordering.{eq_by_cmp, is_eq, is_lt}
 use Rattle.std.specs.declared.cmp.Ordering.TheVariants.{Less, Equal, Greater}
 use Rattle.std.proofs.Math.Nat.{min-le_right}
 use Rattle.std.proofs.lemmas.Bool.{and_parts, not-true, or_parts}
 use Rattle.std.proofs.lemmas.Cmp.{tied_itself}
-use Rattle.std.proofs.lemmas.List.{length-append, length-map, length-take, take-append-le}
+use Rattle.std.proofs.lemmas.List.{length-append, length-map, map-append, take-append-le, take-map}
 use Rattle.std.proofs.lemmas.List.Elements.{filter-append}
 use Rattle.fsd_bytes.specs.Bytes.{same_bytes}
 use Rattle.fsd_bytes.specs.declared.key.Key.{Key}
 use Rattle.fsd_bytes.specs.Keys.{key_cmp, same_key}
 use Rattle.run_table.specs.declared.run.Run.{Run}
 use Rattle.run_table.specs.RunTable.{sectors_of}
-use Rattle.run_table.specs.Space.{contains}
 use Rattle.fsd_formats.specs.declared.entry.Entry.{Entry}
 use Rattle.fsd_files.specs.Answers.{entry_of, entry_put, moved_entry, with_version_moved}
 use Rattle.fsd_files.specs.Files.{Change, File, Files, gone, gone_by_move, moved_keep, moved_out, moved_to, new_key, of_name, step, with_moved, without_keys}
 use Rattle.fsd_files.specs.Kept.{Lists}
-use Rattle.fsd_files.specs.Volume.{Volume, entries_at, entries_without, is_in, plans_of}
+use Rattle.fsd_files.specs.Volume.{Volume, entries_without, is_in, plans_of}
 use Rattle.fsd_files.proofs.CountLaws.{contains_occurs, occurs, occurs_contains, used, used-cons}
 use Rattle.fsd_files.proofs.FreshLaws.{IsAbsent, differs, new_is_highest, new_key_is_new, of_T, stands_last}
 use Rattle.fsd_files.proofs.HistoryLaws.{keys_total}
-use Rattle.fsd_files.proofs.ListingLaws.{AreFound, alike_is, found_both, same_key_is, same_key_turned}
+use Rattle.fsd_files.proofs.ListingLaws.{AreFound, alike_is, found_both, lists_kept, same_key_is, same_key_turned}
 
 -- ---- lists
 
@@ -76,6 +75,21 @@ front_goes {X} P keep xs x all = by (keep == 0) refl
         subst (λ (ys : List X). AllByRecursion P (take 1 ys)) (sym (take-append-le (min 2 (length (xs ++ x ∷ []) - keep)) xs (x ∷ []) fewer))
         (each_taken P 1 (take (min 2 (length (xs ++ x ∷ []) - keep)) xs) (each_taken P (min 2 (length (xs ++ x ∷ []) - keep)) xs all))
 
+moved_out_mapped : {X Y : Type 0} (f : X → Y) (keep : ℕ) (xs : List X) → map f (moved_out keep xs) ≡ moved_out keep (map f xs)
+moved_out_mapped f keep xs = by (keep == 0)
+  where
+    by : (b : Bool) → map f (take 1 (cond b [] (take (min 2 (length xs - keep)) xs))) ≡ take 1 (cond b [] (take (min 2 (length (map f xs) - keep)) (map f xs)))
+    by true = refl
+    by false =
+        sym (take-map f 1 (take (min 2 (length xs - keep)) xs))
+        ∙ ap (take 1) (sym (take-map f (min 2 (length xs - keep)) xs) ∙ ap (λ (n : ℕ). take (min 2 (n - keep)) (map f xs)) (sym (length-map xs f)))
+
+keys_alike : (s : Files) (entries : List Entry) → Lists s entries → map (λ y. y.0) s ≡ map (λ e. e.key) entries
+keys_alike [] [] lists = refl
+keys_alike [] (z ∷ entries) lists = absurd lists
+keys_alike (y ∷ s) [] lists = absurd lists
+keys_alike (y ∷ s) (z ∷ entries) lists = λ i. sym lists.0.key i ∷ keys_alike s entries lists.1 i
+
 none_of : {X : Type 0} (key : Key) (xs : List (Key × X)) → AllByRecursion (λ y. same_key key y.0 ≡ false) xs → list_any (same_key key) (map (λ y. y.0) xs) ≡ false
 none_of key [] all = refl
 none_of key (y ∷ xs) all = ap (λ (b : Bool). b || list_any (same_key key) (map (λ z. z.0) xs)) all.0 ∙ none_of key xs all.1
@@ -91,7 +105,7 @@ other_key k key x (y ∷ s) all there = by (eq_by_cmp key_cmp key y.0) refl ther
     by true is of rest = ap (same_key k) (same_key_is key y.0 is) ∙ all.0
     by false is of rest = rest of
 
-module _ (key : Key) (name : List ℕ) (x : File) (s : Files) (sorted : T (is_sorted key_cmp s)) where
+module _ (key : Key) (name : List ℕ) (x : File) (s : Files) where
   abbrev k : Key
   k = new_key name s
 
@@ -100,9 +114,6 @@ module _ (key : Key) (name : List ℕ) (x : File) (s : Files) (sorted : T (is_so
 
   abbrev out : List Key
   out = gone_by_move key name x s
-
-  all_other : AllByRecursion (λ y. same_key k y.0 ≡ false) s
-  all_other = differs name k file refl s (new_is_highest name s sorted)
 
   -- at most one goes by the keep
   pub few_go : length out ≤ 1
@@ -141,51 +152,67 @@ module _ (key : Key) (name : List ℕ) (x : File) (s : Files) (sorted : T (is_so
       by true ys all = tt
       by false ys all = each_taken Differs (min 2 (length ys - moved_keep name x.keep s)) ys all
 
-  module _ (other : same_key k key ≡ false) where
-    -- the versions of the name then but for the old one, the new one last
-    pub versions_then : of_name name (without_keys (key ∷ []) (with_moved name x s)) ≡ of_name name (without_keys (key ∷ []) s) ++ (k, file) ∷ []
-    versions_then =
-        turned (λ y. same_bytes name y.0.name) left (with_moved name x s)
-        ∙ ap (λ (ys : Files). filter left ys) (stands_last name k file refl s sorted (new_is_highest name s sorted))
-        ∙ filter-append left (of_name name s) ((k, file) ∷ [])
-        ∙ (λ i. turned left (λ y. same_bytes name y.0.name) s i ++ cond (not (other i || false)) ((k, file) ∷ []) [])
-      where
-        left : Key × File → Bool
-        left y = not (list_any (same_key y.0) (key ∷ []))
+  module _ (sorted : T (is_sorted key_cmp s)) where
+    all_other : AllByRecursion (λ y. same_key k y.0 ≡ false) s
+    all_other = differs name k file refl s (new_is_highest name s sorted)
 
-    -- the new one stays
-    pub new_stays : list_any (same_key k) out ≡ false
-    new_stays =
-        ap (λ (ys : Files). list_any (same_key k) (map (λ y. y.0) (moved_out (moved_keep name x.keep s) ys))) versions_then
-        ∙ none_of k (moved_out (moved_keep name x.keep s) (of_name name (without_keys (key ∷ []) s) ++ (k, file) ∷ []))
-        (front_goes (λ y. same_key k y.0 ≡ false) (moved_keep name x.keep s) (of_name name (without_keys (key ∷ []) s)) (k, file)
-        (each_left (λ y. same_key k y.0 ≡ false) (λ y. same_bytes name y.0.name) (without_keys (key ∷ []) s) (each_left (λ y. same_key k y.0 ≡ false) (λ y. not (list_any (same_key y.0) (key ∷ []))) s all_other)))
+    module _ (other : same_key k key ≡ false) where
+      -- the versions of the name then but for the old one, the new one last
+      pub versions_then : of_name name (without_keys (key ∷ []) (with_moved name x s)) ≡ of_name name (without_keys (key ∷ []) s) ++ (k, file) ∷ []
+      versions_then =
+          turned (λ y. same_bytes name y.0.name) left (with_moved name x s)
+          ∙ ap (λ (ys : Files). filter left ys) (stands_last name k file refl s sorted (new_is_highest name s sorted))
+          ∙ filter-append left (of_name name s) ((k, file) ∷ [])
+          ∙ (λ i. turned left (λ y. same_bytes name y.0.name) s i ++ cond (not (other i || false)) ((k, file) ∷ []) [])
+        where
+          left : Key × File → Bool
+          left y = not (list_any (same_key y.0) (key ∷ []))
 
-  module _ (there : find key_cmp key s ≡ Some x) where
-    is_other : same_key k key ≡ false
-    is_other = other_key k key x s all_other there
+      -- which keys go, in the words of the entries
+      pub keys_by_move : (entries : List Entry) → Lists s entries
+          → out ≡ moved_out (moved_keep name x.keep s) (map (λ e. e.key) (filter (λ e. same_bytes name e.key.name) (entries_without (key ∷ []) entries)) ++ k ∷ [])
+      keys_by_move entries lists =
+          moved_out_mapped (λ y. y.0) (moved_keep name x.keep s) (of_name name (without_keys (key ∷ []) (with_moved name x s)))
+          ∙ ap (moved_out (moved_keep name x.keep s))
+          (ap (map (λ y. y.0)) versions_then
+          ∙ map-append (λ y. y.0) (of_name name (without_keys (key ∷ []) s)) ((k, file) ∷ [])
+          ∙ ap (λ (ks : List Key). ks ++ k ∷ [])
+          (keys_alike (of_name name (without_keys (key ∷ []) s)) (filter (λ e. same_bytes name e.key.name) (entries_without (key ∷ []) entries))
+          (lists_kept (λ a. same_bytes name a.name) (without_keys (key ∷ []) s) (entries_without (key ∷ []) entries) (lists_kept (λ a. not (list_any (same_key a) (key ∷ []))) s entries lists))))
 
-    found_then : (q : Key) → find key_cmp q (step s (Change.Move key name)) ≡ cond (not (list_any (same_key q) (key ∷ out))) (cond (eq_by_cmp key_cmp q k) (Some file) (find key_cmp q s)) None
-    found_then q =
-        ap (λ (o : Option File). find key_cmp q (moved_to key name o s)) there
-        ∙ find-where_key key_cmp stays q (λ a tied. ap stays (sym (alike_is q a tied))) (with_moved name x s)
-        ∙ ap (λ (o : Option File). cond (stays q) o None) (find-put key_cmp keys_total q k file s)
-      where
-        stays : Key → Bool
-        stays a = not (list_any (same_key a) (key ∷ out))
+      -- the new one stays
+      pub new_stays : list_any (same_key k) out ≡ false
+      new_stays =
+          ap (λ (ys : Files). list_any (same_key k) (map (λ y. y.0) (moved_out (moved_keep name x.keep s) ys))) versions_then
+          ∙ none_of k (moved_out (moved_keep name x.keep s) (of_name name (without_keys (key ∷ []) s) ++ (k, file) ∷ []))
+          (front_goes (λ y. same_key k y.0 ≡ false) (moved_keep name x.keep s) (of_name name (without_keys (key ∷ []) s)) (k, file)
+          (each_left (λ y. same_key k y.0 ≡ false) (λ y. same_bytes name y.0.name) (without_keys (key ∷ []) s) (each_left (λ y. same_key k y.0 ≡ false) (λ y. not (list_any (same_key y.0) (key ∷ []))) s all_other)))
 
-    -- the new version has the old one's bytes
-    pub new_there : find key_cmp k (step s (Change.Move key name)) ≡ Some file
-    new_there =
-        found_then k
-        ∙ ap (λ (b : Bool). cond (not b) (cond (eq_by_cmp key_cmp k k) (Some file) (find key_cmp k s)) None) (ap (λ (b : Bool). b || list_any (same_key k) out) is_other ∙ new_stays is_other)
-        ∙ ap (λ (o : Ordering). cond (is_eq o) (Some file) (find key_cmp k s)) (tied_itself keys_total k)
+    module _ (there : find key_cmp key s ≡ Some x) where
+      is_other : same_key k key ≡ false
+      is_other = other_key k key x s all_other there
 
-    -- and the old one is gone
-    pub old_gone : find key_cmp key (step s (Change.Move key name)) ≡ None
-    old_gone =
-        found_then key
-        ∙ ap (λ (o : Ordering). cond (not (is_eq o || list_any (same_key key) out)) (cond (eq_by_cmp key_cmp key k) (Some file) (find key_cmp key s)) None) (tied_itself keys_total key)
+      found_then : (q : Key) → find key_cmp q (step s (Change.Move key name)) ≡ cond (not (list_any (same_key q) (key ∷ out))) (cond (eq_by_cmp key_cmp q k) (Some file) (find key_cmp q s)) None
+      found_then q =
+          ap (λ (o : Option File). find key_cmp q (moved_to key name o s)) there
+          ∙ find-where_key key_cmp stays q (λ a tied. ap stays (sym (alike_is q a tied))) (with_moved name x s)
+          ∙ ap (λ (o : Option File). cond (stays q) o None) (find-put key_cmp keys_total q k file s)
+        where
+          stays : Key → Bool
+          stays a = not (list_any (same_key a) (key ∷ out))
+
+      -- the new version has the old one's bytes
+      pub new_there : find key_cmp k (step s (Change.Move key name)) ≡ Some file
+      new_there =
+          found_then k
+          ∙ ap (λ (b : Bool). cond (not b) (cond (eq_by_cmp key_cmp k k) (Some file) (find key_cmp k s)) None) (ap (λ (b : Bool). b || list_any (same_key k) out) is_other ∙ new_stays is_other)
+          ∙ ap (λ (o : Ordering). cond (is_eq o) (Some file) (find key_cmp k s)) (tied_itself keys_total k)
+
+      -- and the old one is gone
+      pub old_gone : find key_cmp key (step s (Change.Move key name)) ≡ None
+      old_gone =
+          found_then key
+          ∙ ap (λ (o : Ordering). cond (not (is_eq o || list_any (same_key key) out)) (cond (eq_by_cmp key_cmp key k) (Some file) (find key_cmp key s)) None) (tied_itself keys_total key)
 
 -- ---- the entries: what a change adds up to
 
@@ -329,7 +356,7 @@ module _ (v : Volume) (key : Key) (name : List ℕ) (x : File) (e : Entry) (r : 
   moved_weight : (f : List Run → ℕ) → weight f moved_volume.entries ≡ weight f (entries_without by_keep v.entries)
   moved_weight f =
       weight_put (λ z. not (list_any (same_key z.key) (key ∷ by_keep))) (moved_entry v name e) passes f v.entries (new_key_is_new name v.files v.entries sorted lists)
-      ∙ weight_without f key by_keep e v.files v.entries lists (of_T (is_sorted key_cmp v.files) sorted) (old_stays key name x v.files sorted) found
+      ∙ weight_without f key by_keep e v.files v.entries lists (of_T (is_sorted key_cmp v.files) sorted) (old_stays key name x v.files) found
 
   pub moved_used : (s : ℕ) → used s (plans_of moved_volume.entries) ≡ used s (plans_of (entries_without by_keep v.entries))
   moved_used s = weight_used s moved_volume.entries ∙ moved_weight (λ runs. occurs s (sectors_of runs)) ∙ sym (weight_used s (entries_without by_keep v.entries))
