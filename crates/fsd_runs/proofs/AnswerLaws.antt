@@ -1,9 +1,7 @@
 -- What the answers of a volume do to its files, to the pages of its table, to what it holds and to what is forced.
-use Rattle.std.proofs.Common.{◌≡◌, ◌⊎◌, inl, inr, ℕ, suc, ◌+◌, ◌≤◌, Bool, true, false, cond, List, [], ◌∷◌, length, Option, Some, None, refl, sym, ap, ◌∙◌, arith}
-use Rattle.std.specs.Prelude.{IfSome, is_none, not, nat_le, nat_lt, ◌&&◌, ◌||◌, ◌==◌, fold}
-use Rattle.std.specs.List.{list_any}
+use Rattle.std.proofs.Common.{◌≡◌, ◌⊎◌, inl, inr, ℕ, suc, ◌≤◌, Bool, true, false, cond, List, [], ◌∷◌, length, Option, Some, None, refl, ap, ◌∙◌, arith}
+use Rattle.std.specs.Prelude.{IfSome, is_none, not, nat_le, nat_lt, ◌&&◌, ◌==◌}
 use Rattle.std.specs.FinMap.{find}
-use Rattle.std.proofs.lemmas.List.{length-append}
 use Rattle.fsd_bytes.specs.declared.key.Key.{Key}
 use Rattle.fsd_bytes.specs.declared.key.Serial.{Serial}
 use Rattle.fsd_bytes.specs.declared.refusal.Refusal.{Refusal}
@@ -17,18 +15,16 @@ use Rattle.fsd_formats.specs.NamePage.{sectors_for, max_keep}
 use Rattle.sector_disk.specs.declared.sector.Sector.{Sector}
 use Rattle.sector_disk.specs.declared.sector.Sector.TheVariants.{Whole, Damaged}
 use Rattle.sector_disk.specs.Image.{sector_at}
-use Rattle.fsd_files.proofs.HistoryLaws.{fold_both}
 use Rattle.fsd_files.specs.Answers.{Met, Outcome, refused, enter_fault, entered_unless, entered_version, put_at, put_unless, size_fault, keep_given, deleted, keep_set, moved, moved_unless, entry_of, highest_entry, upgraded, got, FindsDamage, FindsDamageIn}
 use Rattle.fsd_files.specs.Disk.{Image}
 use Rattle.fsd_files.specs.Files.{Change, File, Files, step}
 use Rattle.fsd_files.specs.Kept.{range_sectors}
 use Rattle.fsd_files.specs.Scrub.{Picks, all_data}
-use Rattle.fsd_files.specs.Volume.{Volume, HasReach, forced, forced_if, forced_for_place, drawn, place_for}
+use Rattle.fsd_files.specs.Volume.{Volume, forced, forced_if, forced_for_place, drawn, place_for}
 use Rattle.fsd_texts.specs.declared.command.Command.{Command}
 use Rattle.fsd_texts.specs.declared.command.Command.TheVariants as Word
 use Rattle.fsd_runs.specs.Commands.{answer, changes_of, MayFind}
-use Rattle.fsd_runs.specs.Errands.{Turn, Errand, answered_so, is_forced}
-use Rattle.fsd_runs.specs.Runs.{session_behind, turn_of, changes_in, forced_in, turns_begun}
+use Rattle.fsd_runs.specs.Errands.{is_forced}
 
 -- ---- one answer: nothing is changed, or the change is made
 
