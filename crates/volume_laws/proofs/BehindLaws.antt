@@ -26,6 +26,10 @@ use Rattle.volume_contract.specs.Causes.{AreSomeCopies, AreCopiesOfPage, BreaksM
 use Rattle.volume_contract.specs.Order.{Comes, with_drawn}
 use Rattle.volume_contract.specs.State.{State, forces_first, forces_for_place}
 use Rattle.volume_contract.specs.Behind.{IsBehindForce}
+use Rattle.volume_contract.specs.Found.{ShowsReached}
+use Rattle.volume_laws.specs.Behind.{IsBehind}
+use Rattle.fsd_table.specs.Reached.{ReachesPage}
+use Rattle.fsd_table.specs.Table.{Visit}
 use Rattle.volume_laws.specs.Ending.{Edits, delete_tests, keep_tests}
 use Rattle.volume_laws.specs.Placing.{HasStored}
 use Rattle.volume_laws.specs.State.{resident, state}
@@ -35,7 +39,7 @@ use Rattle.volume_laws.proofs.PutCauses.{copies_of, none_before, told_of}
 use Rattle.volume_laws.proofs.TestedLaws.{delete_tested, keep_tested}
 use Rattle.volume_laws.proofs.WrittenLaws.{merged, merged_at, merged_size}
 
-module _ (s t u : State) (before after : ℕ → Option (List ℕ)) (old mid now : Moment) (behind : IsBehindForce s t before after mid) (slots : u.slots ≡ t.slots) (layout : u.layout ≡ t.layout) (wears : Wears mid now) where
+module _ (s t u : State) (before after : ℕ → Option (List ℕ)) (old mid now : Moment) (behind : IsBehind s t before after old mid) (slots : u.slots ≡ t.slots) (layout : u.layout ≡ t.layout) (wears : Wears mid now) where
   copies_now : (page a b : ℕ) → AreCopiesOfPage t page a b → AreCopiesOfPage u page a b
   copies_now page a b copies = copies_of u t page a b (sym slots) (sym layout) copies
 
@@ -67,12 +71,9 @@ module _ (s t u : State) (before after : ℕ → Option (List ℕ)) (old mid now
   worn_now : (i : Image) → IsWorn (open_damage mid.windows) i mid.image → IsWorn (open_damage now.windows) i now.image
   worn_now i worn = subst (λ (w : Windows). IsWorn (open_damage w) i now.image) (sym wears.windows) (worn_trans (open_damage mid.windows) i mid.image now.image worn wears.image)
 
-  -- what stands in the log stands in a copy
-  in_copy : (page : ℕ) (bytes : List ℕ) → (stands : StandsLogged t.layout t.slots mid page bytes) → StandsInCopy t stands.seen page bytes
-  in_copy page bytes stands = record { a = stands.a; b = stands.b; copies = inl stands.logged.lies; whole = inl stands.first }
-
-  stood_behind : (page : ℕ) (bytes : List ℕ) → StandsLogged t.layout t.slots mid page bytes → StoodInCopy s u old now page bytes
-  stood_behind page bytes stands = (stands.seen, inr (worn_now stands.seen stands.worn, stands_now stands.seen page bytes (in_copy page bytes stands)))
+  stood_behind : (page : ℕ) (bytes : List ℕ) → StoodInCopy s t old mid page bytes → StoodInCopy s u old now page bytes
+  stood_behind page bytes (seen, inl first) = (seen, inl first)
+  stood_behind page bytes (seen, inr (worn, stands)) = (seen, inr (worn_now seen worn, stands_now seen page bytes stands))
 
   stood_then : (page : ℕ) (bytes : List ℕ) → StoodInCopy t u mid now page bytes → StoodInCopy s u old now page bytes
   stood_then page bytes (seen, inl (worn, stands)) = (mid.image, inr (worn_now mid.image (worn_refl (open_damage mid.windows) mid.image), stands_now mid.image page bytes (whole_before mid.image seen page bytes worn stands)))
@@ -82,7 +83,7 @@ module _ (s t u : State) (before after : ℕ → Option (List ℕ)) (old mid now
   read_behind page bytes read = record {
     within = subst (λ (l : Layout). page < l.pages) behind.layout read.within;
     source = elim read.source [
-      | inl there ↦ elim (behind.pages page bytes there) [
+      | inl there ↦ elim (behind.pages page bytes read.within there) [
         | inl was ↦ inl was
         | inr stood ↦ inr (stood_behind page bytes stood)
       ]
@@ -123,11 +124,25 @@ module _ (s t u : State) (before after : ℕ → Option (List ℕ)) (old mid now
   cause_behind (Why.Unsound place) shows = shows_behind (λ pages. BreaksMounted t pages place) (λ pages. BreaksMounted s pages place) (λ pages broken. breaks_behind pages place broken) shows
   cause_behind why cause = tt
 
+-- what stands in the log stands in a copy
+pub forced_behind : (s t : State) (before after : ℕ → Option (List ℕ)) (old mid : Moment) → IsBehindForce s t before after mid → IsBehind s t before after old mid
+forced_behind s t before after old mid behind = record { layout = behind.layout; free_pages = behind.free_pages; pages = λ page bytes lt is. by page bytes (behind.pages page bytes is); untaken = behind.untaken }
+  where
+    by : (page : ℕ) (bytes : List ℕ) → ((before page ≡ Some bytes) ⊎ StandsLogged t.layout t.slots mid page bytes) → (before page ≡ Some bytes) ⊎ StoodInCopy s t old mid page bytes
+    by page bytes (inl was) = inl was
+    by page bytes (inr logged) = inr (logged.seen, inr (logged.worn, record { a = logged.a; b = logged.b; copies = inl logged.logged.lies; whole = inl logged.first }))
+
 pub causes_behind : {D T : Type 0} (M : Ghosts D) (s t u : State) (before after : ℕ → Option (List ℕ)) (old mid now : D) → (M.honest now → IsBehindForce s t before after (M.now mid)) → u.slots ≡ t.slots → u.layout ≡ t.layout → (M.honest now → Wears (M.now mid) (M.now now))
     → (r : Result T Refusal) → Causes M after t u mid now r → Causes M before s u old now r
 causes_behind M s t u before after old mid now behind slots layout wears (Ok x) causes = tt
 causes_behind M s t u before after old mid now behind slots layout wears (Err why) causes =
-    λ honest. cause_behind s t u before after (M.now old) (M.now mid) (M.now now) (behind honest) slots layout (wears honest) why (causes honest)
+    λ honest. cause_behind s t u before after (M.now old) (M.now mid) (M.now now) (forced_behind s t before after (M.now old) (M.now mid) (behind honest)) slots layout (wears honest) why (causes honest)
+
+-- what the pages that were read behind a force show was shown by what was there before it
+pub found_behind : {D : Type 0} (M : Ghosts D) (s t u : State) (before after : ℕ → Option (List ℕ)) (old mid now : D) → (M.honest now → IsBehindForce s t before after (M.now mid)) → u.slots ≡ t.slots → u.layout ≡ t.layout → (M.honest now → Wears (M.now mid) (M.now now))
+    → (Is : Visit → Type 0) → ShowsReached M after t u mid now Is → ShowsReached M before s u old now Is
+found_behind M s t u before after old mid now behind slots layout wears Is shows =
+    λ honest. shows_behind s t u before after (M.now old) (M.now mid) (M.now now) (forced_behind s t before after (M.now old) (M.now mid) (behind honest)) slots layout (wears honest) (ReachesPage Is) (ReachesPage Is) (λ pages is. is) (shows honest)
 
 -- ---- stages of a call
 
