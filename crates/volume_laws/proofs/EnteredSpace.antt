@@ -25,8 +25,8 @@ use Rattle.fsd_files.specs.Files.{gone_keys}
 use Rattle.fsd_files.specs.Kept.{Lists}
 use Rattle.fsd_files.specs.Volume.{Volume, entries_at, entries_without, in_version, is_free, is_in, plans_of}
 use Rattle.fsd_files.specs.Waiting.{Changes, is_kept_alone}
-use Rattle.fsd_files.proofs.ChangeLaws.{IsAbsent, same_key_turned}
-use Rattle.fsd_files.proofs.ListingLaws.{lists_length}
+use Rattle.fsd_files.proofs.FreshLaws.{IsAbsent}
+use Rattle.fsd_files.proofs.ListingLaws.{lists_length, same_key_turned}
 use Rattle.fsd_table.proofs.KeyLaws.{keys_total}
 use Rattle.version_table.specs.declared.oldest.Leaving.{Leaving}
 use Rattle.version_table.specs.Met.{entries_left}
