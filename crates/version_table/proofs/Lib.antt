@@ -2,6 +2,7 @@ pub mod EditLaws
 pub mod EnterLaws
 pub mod MakeLaws
 pub mod MeetLaws
+pub mod MoveLaws
 pub mod OldestLaws
 pub mod PlanLaws
 pub mod StepLaws

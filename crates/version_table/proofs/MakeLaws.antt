@@ -21,11 +21,11 @@ use Rattle.version_table.proofs.VersionLaws.{entries_of_keys, keys_beyond}
 pub used_up : (name : List ℕ) (table : List Entry) (highest : Option Entry) → highest_entry name table ≡ highest → option_map (λ e. e.key.version) highest ≡ Some (2 ^ 32 - 1) → max_u32 < (next_key name table).version
 used_up name table highest is most = omega (arith, ap next_version (ap (option_map (λ (e : Entry). e.key.version)) is ∙ most))
 
-keys_of : (gs : List Leaving) → map key_left gs ≡ map (λ e. e.key) (entries_left gs)
+pub keys_of : (gs : List Leaving) → map key_left gs ≡ map (λ e. e.key) (entries_left gs)
 keys_of [] = refl
 keys_of (g ∷ gs) = ap (λ (ks : List Key). g.entry.key ∷ ks) (keys_of gs)
 
-beyond_at : (name : List ℕ) (keep : ℕ) (table : List Entry) → Ascend table → oldest_beyond keep (versions_of name table) ≡ entries_at (map (λ e. e.key) (oldest_beyond keep (versions_of name table))) table
+pub beyond_at : (name : List ℕ) (keep : ℕ) (table : List Entry) → Ascend table → oldest_beyond keep (versions_of name table) ≡ entries_at (map (λ e. e.key) (oldest_beyond keep (versions_of name table))) table
 beyond_at name keep table asc = by (keep == 0)
   where
     none : (xs : List Entry) → [] ≡ entries_at [] xs

@@ -1,7 +1,6 @@
 -- What loading a version is to do.
-use Rattle.std.specs.Prelude.{◌≡◌, ℕ, List, [], Some, is_some, true}
+use Rattle.std.specs.Prelude.{◌≡◌, ℕ, [], Some}
 use Rattle.fsd_bytes.specs.declared.key.Key.{Key}
-use Rattle.fsd_formats.specs.declared.entry.Entry.{Entry}
 use Rattle.fsd_files.specs.Answers.{entry_of}
 use Rattle.name_page.specs.declared.pages.Pages.{Ghosts}
 use Rattle.name_btree.specs.declared.lookup.FoundEntry.{FoundEntry}

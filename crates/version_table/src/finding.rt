@@ -5,7 +5,7 @@ ghost use Rattle.name_btree.specs.Lookup.{IsMetAs, ShowsAbsent, ShowsNoVersion};
 ghost use Rattle.name_btree.specs.Path.{HasPath};
 ghost use Rattle.name_page.specs.declared.pages.TheConstants.{MOST_REACHED};
 ghost use Rattle.name_page.specs.Looks.{NeedsNoMore, OnlyWalks};
-ghost use Rattle.version_table.specs.Fault.{outer_met, FailsLook, FailsToFindVersion, NamesInside};
+ghost use Rattle.version_table.specs.Fault.{outer_met, FailsLook, FailsToFindVersion, NamesInside, ShowsLook};
 ghost use Rattle.version_table.specs.Newest.{IsNewest, StaysAtNewest};
 ghost use Rattle.version_table.specs.Table.{OfTable};
 
@@ -23,6 +23,7 @@ pub fn version_at<T: Pages>(t: &mut T, key: &Key) -> Result<FoundEntry, VersionF
     ensures found { IfOk result (λ found. OfTable T.Pages t.old t.new (λ table. entry_of key.now table ≡ Some found.entry)) }
     ensures absent { result ≡ Err VersionFault.NoSuch → ShowsAbsent (T.step t.new) key.now }
     ensures fault { IfErr result (FailsLook T.Pages t.new (OfTable T.Pages t.old t.new (λ table. entry_of key.now table ≡ None)) ⊥) }
+    ensures shown { IfErr result (ShowsLook (T.step t.new)) }
 {
     t.rest();
     match find(t, key) {

@@ -1,6 +1,7 @@
 //! The versions of a name.
 ghost use Rattle.std.specs.Prelude.{◌≡◌, ◌-◌, ◌^◌, ◌↔◌, IsNone, IfSome, Some};
-ghost use Rattle.fsd_files.specs.Files.{next_version, keep_of, gone};
+ghost use Rattle.std.specs.Option.{option_to_list};
+ghost use Rattle.fsd_files.specs.Files.{next_version, keep_of, gone, moved_out};
 
 use arrayvec::ArrayVec;
 
@@ -38,4 +39,11 @@ pub fn gone(versions: &[u32], keep: u32) -> ArrayVec<u32, 2>
         out.push(*version);
     }
     out
+}
+
+/// Which version of a name goes where one of them has come by a move. They are given as for `gone`.
+pub fn moved_out(versions: &[u32], keep: u32) -> Option<u32>
+    ensures { option_to_list result ≡ moved_out keep versions.now }
+{
+    gone(versions, keep).as_slice().first().copied()
 }

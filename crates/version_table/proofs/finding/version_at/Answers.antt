@@ -44,6 +44,9 @@ returns-in-Ok-Some-clause-met g c =
 pub returns-in-Err-clause-fault : goal.returns-in-Err-clause-fault
 returns-in-Err-clause-fault g c = c.in-Err.ensures.failed.cause
 
+pub returns-in-Err-clause-shown : goal.returns-in-Err-clause-shown
+returns-in-Err-clause-shown g c = c.in-Err.ensures.failed.shown
+
 -- ---- where there is none
 
 pub returns-in-Ok-None-clause-absent : goal.returns-in-Ok-None-clause-absent
