@@ -7,6 +7,6 @@ mod DrillLaws
 mod EndedLaws
 mod FormatLaws
 mod FoundLaws
-mod LifeLaws
-mod OpeningLaws
+pub mod LifeLaws
+pub mod OpeningLaws
 mod ProgramLaws

@@ -48,10 +48,10 @@ use Rattle.volume_turns.proofs.StatusLaws.{fault_some}
 
 -- ---- a list, by the files
 
-abbrev file_line : Key × File → List ℕ
+abbrev pub file_line : Key × File → List ℕ
 file_line x = version_text x.0 (length x.1.bytes) x.1.keep
 
-abbrev entry_line : Entry → List ℕ
+abbrev pub entry_line : Entry → List ℕ
 entry_line e = version_text e.key e.length e.keep
 
 line_is : (x : Key × File) (e : Entry) → IsEntryOf x e → entry_line e ≡ file_line x
@@ -67,10 +67,10 @@ all_fit : (entries : List Entry) → filter (λ e. fits (Prefix []) e.key.name) 
 all_fit [] = refl
 all_fit (e ∷ entries) = ap (λ (x : List Entry). e ∷ x) (all_fit entries)
 
-abbrev listing : List Entry → List ℕ
+abbrev pub listing : List Entry → List ℕ
 listing entries = flat_map entry_line entries ++ listed_text (length entries)
 
-list_is : (files : Files) (entries : List Entry) → Lists files entries → listing (filter (λ e. fits (Prefix []) e.key.name) entries) ≡ list_text files
+pub list_is : (files : Files) (entries : List Entry) → Lists files entries → listing (filter (λ e. fits (Prefix []) e.key.name) entries) ≡ list_text files
 list_is files entries lists =
     ap listing (all_fit entries) ∙ (λ i. lines_are files entries lists i ++ listed_text (lists_long files entries lists i))
 
@@ -137,18 +137,18 @@ broken_not_zero request Undone Way before now turns old new result (inr broken) 
 -- ---- one command
 
 module _ (command : Command) (v : Volume) where
-  abbrev reply_to : Meeting → Reply
+  abbrev pub reply_to : Meeting → Reply
   reply_to x = (answer x.met v command).0
 
-  abbrev turn_for : Meeting → Turn
+  abbrev pub turn_for : Meeting → Turn
   turn_for x = turn_of (errand_alone command) (answered_so (session_over v) (Plain command) (reply_to x))
 
   -- it was answered
-  record IsAnsweredBy (mets : List Meeting) (met : Meeting) : Type 0 where
-    turns : turns_of (errand_alone command) mets (session_over v) ≡ turn_for met ∷ []
-    status : (alone_ending (answered mets (session_over v) (Plain command ∷ []))).status ≡ reply_status (reply_to met)
+  pub record IsAnsweredBy (mets : List Meeting) (met : Meeting) : Type 0 where
+    pub turns : turns_of (errand_alone command) mets (session_over v) ≡ turn_for met ∷ []
+    pub status : (alone_ending (answered mets (session_over v) (Plain command ∷ []))).status ≡ reply_status (reply_to met)
 
-  answered_once : (mets : List Meeting) → length mets ≡ 1 → (met : Meeting) × IsAnsweredBy mets met
+  pub answered_once : (mets : List Meeting) → length mets ≡ 1 → (met : Meeting) × IsAnsweredBy mets met
   answered_once [] one = absurd (omega (arith, one))
   answered_once (met ∷ []) one = (met, record { turns = refl; status = refl })
   answered_once (met ∷ other ∷ mets) one = absurd (omega (arith, one))
@@ -161,27 +161,27 @@ module _ (command : Command) (v : Volume) where
 
 -- ---- a put
 
-abbrev IsPutReply : Reply → Type 0
+abbrev pub IsPutReply : Reply → Type 0
 IsPutReply reply = ((why : Refusal) × (reply ≡ Said.Refused why)) ⊎ ((key : Key) × (sectors : ℕ) × (reply ≡ Said.Made key sectors))
 
-module _ (met : Met) (name bytes : List ℕ) where
-  put_enters : (v : Volume) (runs : List SectorRun) (serial : Serial) (o : Option Refusal) → IsPutReply (entered_unless o v name bytes None runs serial met.reached).0
+module _ (met : Met) (name bytes : List ℕ) (keep : Option ℕ) where
+  put_enters : (v : Volume) (runs : List SectorRun) (serial : Serial) (o : Option Refusal) → IsPutReply (entered_unless o v name bytes keep runs serial met.reached).0
   put_enters v runs serial None = inr (new_key name v.files, total runs, refl)
   put_enters v runs serial (Some why) = inl (why, refl)
 
-  put_placed : (v : Volume) (need : ℕ) (o : Option (List SectorRun)) → IsPutReply (put_at met v name bytes None need o).0
+  put_placed : (v : Volume) (need : ℕ) (o : Option (List SectorRun)) → IsPutReply (put_at met v name bytes keep need o).0
   put_placed v need None = inl (no_place v need, refl)
   put_placed v need (Some runs) = put_enters (forced_if met.forces (drawn v)) runs v.serial (enter_fault (forced_if met.forces (drawn v)) name)
 
-  put_tried : (v : Volume) (o : Option Refusal) → IsPutReply (put_unless o met v name bytes None).0
+  put_tried : (v : Volume) (o : Option Refusal) → IsPutReply (put_unless o met v name bytes keep).0
   put_tried v (Some why) = inl (why, refl)
   put_tried v None =
       let need = sectors_for (length bytes) in
       let at = forced_for_place need v in
       put_placed at need (place_for at need)
 
-  put_reply : (v : Volume) → IsPutReply (answer met v (Word.Put name bytes None)).0
-  put_reply v = put_tried v (size_fault (keep_given None) (length bytes))
+  pub put_reply : (v : Volume) → IsPutReply (answer met v (Word.Put name bytes keep)).0
+  put_reply v = put_tried v (size_fault (keep_given keep) (length bytes))
 
 module _ (name : List ℕ) (byte : ℕ) where
   abbrev the_put : Command
@@ -210,7 +210,7 @@ module _ (name : List ℕ) (byte : ℕ) where
       let met = once.0 in
       ap changes_in once.1.turns
       ∙ append-nil (changes_of the_put (reply_to the_put v met))
-      ∙ changes_one (reply_to the_put v met) (put_reply met.met name (byte ∷ []) v) (sym once.1.status ∙ nought)
+      ∙ changes_one (reply_to the_put v met) (put_reply met.met name (byte ∷ []) None v) (sym once.1.status ∙ nought)
   put_through (Some (k, why)) may mets v through nought = absurd may
 
   -- it was begun or not
@@ -227,7 +227,7 @@ module _ (name : List ℕ) (byte : ℕ) where
 
       by : (turns ≡ blank ∷ []) ⊎ ((met : Meeting) × (turns ≡ turn_for the_put v met ∷ [])) → (changes_in (take (suc whole) turns) ≡ []) ⊎ (changes_in (take (suc whole) turns) ≡ the_change ∷ [])
       by (inl is) = inl (first blank is)
-      by (inr (met, is)) = either (changes_none (reply_to the_put v met) (put_reply met.met name (byte ∷ []) v))
+      by (inr (met, is)) = either (changes_none (reply_to the_put v met) (put_reply met.met name (byte ∷ []) None v))
         where
           either : (changes_of the_put (reply_to the_put v met) ≡ []) ⊎ (changes_of the_put (reply_to the_put v met) ≡ the_change ∷ []) → (changes_in (take (suc whole) turns) ≡ []) ⊎ (changes_in (take (suc whole) turns) ≡ the_change ∷ [])
           either (inl none) = inl (first (turn_for the_put v met) is ∙ none)
@@ -236,7 +236,7 @@ module _ (name : List ℕ) (byte : ℕ) where
 
 -- ---- a list
 
-abbrev all_versions : Command
+abbrev pub all_versions : Command
 all_versions = Word.List (Prefix [])
 
 list_through : (cut : Cut) → MayCut (Asks.One all_versions) cut → (mets : List Meeting) (v : Volume) → length mets ≡ length (errand_in (Asks.One all_versions) [] cut).commands

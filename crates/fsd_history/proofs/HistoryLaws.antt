@@ -43,6 +43,7 @@ use Rattle.fsd_runs.proofs.LeaveLaws.{replied_held}
 use Rattle.cfs_program.specs.Formatting.{HoldsVolume, IsMadeBy}
 use Rattle.cfs_program.specs.Opening.{IsSoundDisk}
 use Rattle.cfs_program.specs.Program.{Ran, input_for}
+use Rattle.cfs_program.proofs.OpeningLaws.{said_disk}
 use Rattle.fsd_history.specs.History.{AreLives, GoesOnAt, HasShown, IsDone, IsFresh, IsLeft, IsLife, IsOver, Life, Meets, Mounts, Plays, Tells, TellsSo}
 
 -- ---- prefixes
@@ -91,11 +92,6 @@ left_ready M h f left m s at =
       };
       held = λ c is layout said. subst (λ (x : Moment). IsSound layout s.windows h f x.image) (sym (at.held c is)) (said_sound s.layout s.windows h f (M.now m).image layout said sound);
     }
-
-said_disk : (l layout : Layout) (windows : List WeakRun) (h : List Change) (f : ℕ) (now : Moment) → IsSaid l now.image layout → IsSoundDisk l windows h f now → IsSoundDisk layout windows h f now
-said_disk l layout windows h f now (inl is) sound = subst (λ (k : Layout). IsSoundDisk k windows h f now) (sym is) sound
-said_disk l layout windows h f now (inr (is, says)) sound =
-    subst (λ (k : Layout). IsSoundDisk k windows h f now) (sym is) (record { planned = planned_turned l sound.planned; ends = sound.ends; sound = sound_turned l windows now.image says h f sound.sound })
 
 -- ---- what a run does
 

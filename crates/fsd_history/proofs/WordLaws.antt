@@ -37,63 +37,19 @@ use Rattle.fsd_runs.specs.Runs.{answered, changes_in, errand_in, said_in, turn_o
 use Rattle.fsd_runs.specs.Sessions.{Meeting, session_over}
 use Rattle.cfs_program.specs.Drill.{list_text}
 use Rattle.cfs_program.specs.Program.{input_for}
+use Rattle.cfs_program.proofs.LifeLaws.{IsPutReply, all_versions, answered_once, list_is, listing, put_reply, reply_to, turn_for}
 use Rattle.fsd_history.specs.History.{Ends, EndsPlainly, HasShown, Life, Meets, PlainlySo, Plays, SaysVersion, Stops, StopsPlainly, Tells, TellsPlainly, TellsSo, turns_in}
 
 -- ---- one command
 
 module _ (command : Command) (v : Volume) where
-  abbrev reply_to : Meeting → Reply
-  reply_to x = (answer x.met v command).0
-
-  abbrev turn_for : Meeting → Turn
-  turn_for x = turn_of (errand_alone command) (answered_so (session_over v) (Plain command) (reply_to x))
-
-  -- it was answered
-  record IsAnsweredBy (mets : List Meeting) (met : Meeting) : Type 0 where
-    turns : turns_of (errand_alone command) mets (session_over v) ≡ turn_for met ∷ []
-    status : ((errand_alone command).ends (answered mets (session_over v) (Plain command ∷ []))).status ≡ reply_status (reply_to met)
-
-  answered_once : (mets : List Meeting) → length mets ≡ 1 → (met : Meeting) × IsAnsweredBy mets met
-  answered_once [] one = absurd (omega (arith, one))
-  answered_once (met ∷ []) one = (met, record { turns = refl; status = refl })
-  answered_once (met ∷ other ∷ mets) one = absurd (omega (arith, one))
-
   turns_are : (Shown : Image → Type 0) (i : Image) (mets : List Meeting) → Meets Shown i (session_over v) mets (Plain command ∷ [])
-      → (turns_of (errand_alone command) mets (session_over v) ≡ blank ∷ []) ⊎ ((met : Meeting) × (turns_of (errand_alone command) mets (session_over v) ≡ turn_for met ∷ []))
+      → (turns_of (errand_alone command) mets (session_over v) ≡ blank ∷ []) ⊎ ((met : Meeting) × (turns_of (errand_alone command) mets (session_over v) ≡ turn_for command v met ∷ []))
   turns_are Shown i [] meets = inl refl
   turns_are Shown i (met ∷ []) meets = inr (met, refl)
   turns_are Shown i (met ∷ other ∷ mets) (j, shown, may, more) = absurd more
 
 -- ---- a list
-
-abbrev all_versions : Command
-all_versions = Word.List (Prefix [])
-
-abbrev file_line : Key × File → List ℕ
-file_line x = version_text x.0 (length x.1.bytes) x.1.keep
-
-abbrev entry_line : Entry → List ℕ
-entry_line e = version_text e.key e.length e.keep
-
-line_is : (x : Key × File) (e : Entry) → IsEntryOf x e → entry_line e ≡ file_line x
-line_is x e is = λ i. version_text (is.key i) (is.length i) (is.keep i)
-
-lines_are : (files : Files) (entries : List Entry) → Lists files entries → flat_map entry_line entries ≡ flat_map file_line files
-lines_are [] [] lists = refl
-lines_are [] (e ∷ entries) lists = absurd lists
-lines_are (x ∷ files) [] lists = absurd lists
-lines_are (x ∷ files) (e ∷ entries) lists = λ i. line_is x e lists.0 i ++ lines_are files entries lists.1 i
-
-all_fit : (entries : List Entry) → filter (λ e. fits (Prefix []) e.key.name) entries ≡ entries
-all_fit [] = refl
-all_fit (e ∷ entries) = ap (λ (x : List Entry). e ∷ x) (all_fit entries)
-
-abbrev listing : List Entry → List ℕ
-listing entries = flat_map entry_line entries ++ listed_text (length entries)
-
-list_is : (files : Files) (entries : List Entry) → Lists files entries → listing (filter (λ e. fits (Prefix []) e.key.name) entries) ≡ list_text files
-list_is files entries lists =
-    ap listing (all_fit entries) ∙ (λ i. lines_are files entries lists i ++ listed_text (lists_long files entries lists i))
 
 module _ (input : List ℕ) (pattern : Pattern) where
   list_turns : (cut : Cut) → MayCut (Asks.One (Word.List pattern)) cut → (mets : List Meeting) (v : Volume) → length mets ≡ length (errand_in (Asks.One (Word.List pattern)) input cut).commands
@@ -149,28 +105,6 @@ get_says Shown key input said s next status x =
     (subst (λ (f : Files). SaysVersion key (find key_cmp key f) said status) p.fresh.files is, x.files ∙ ap (fold step s) g.changes)
 
 -- ---- a put
-
-abbrev IsPutReply : Reply → Type 0
-IsPutReply reply = ((why : Refusal) × (reply ≡ Said.Refused why)) ⊎ ((key : Key) × (sectors : ℕ) × (reply ≡ Said.Made key sectors))
-
-module _ (met : Met) (name bytes : List ℕ) (keep : Option ℕ) where
-  put_enters : (v : Volume) (runs : List SectorRun) (serial : Serial) (o : Option Refusal) → IsPutReply (entered_unless o v name bytes keep runs serial met.reached).0
-  put_enters v runs serial None = inr (new_key name v.files, total runs, refl)
-  put_enters v runs serial (Some why) = inl (why, refl)
-
-  put_placed : (v : Volume) (need : ℕ) (o : Option (List SectorRun)) → IsPutReply (put_at met v name bytes keep need o).0
-  put_placed v need None = inl (no_place v need, refl)
-  put_placed v need (Some runs) = put_enters (forced_if met.forces (drawn v)) runs v.serial (enter_fault (forced_if met.forces (drawn v)) name)
-
-  put_tried : (v : Volume) (o : Option Refusal) → IsPutReply (put_unless o met v name bytes keep).0
-  put_tried v (Some why) = inl (why, refl)
-  put_tried v None =
-      let need = sectors_for (length bytes) in
-      let at = forced_for_place need v in
-      put_placed at need (place_for at need)
-
-  put_reply : (v : Volume) → IsPutReply (answer met v (Word.Put name bytes keep)).0
-  put_reply v = put_tried v (size_fault (keep_given keep) (length bytes))
 
 module _ (name : List ℕ) (keep : Option ℕ) (input : List ℕ) where
   abbrev the_put : Command
