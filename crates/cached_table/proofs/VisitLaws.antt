@@ -14,22 +14,9 @@ use Rattle.fsd_table.specs.Table.{BreaksTable, IsVisited, Visit, max_height, top
 use Rattle.fsd_table.proofs.BoundLaws.{all_append, all_flat}
 use Rattle.fsd_table.proofs.BreakLaws.{misfit_breaks}
 use Rattle.fsd_table.proofs.PageLaws.{at_is_page}
+use Rattle.fsd_sound.proofs.VisitLaws.{one_of}
+pub use Rattle.fsd_sound.proofs.VisitLaws.{own_content}
 use Rattle.name_btree.specs.Fault.{IsOnWay}
-
--- ---- what a visited page has
-
-each_own : (pages : List (List ℕ)) (levels depth : ℕ) (c : Child) → AllByRecursion (λ v. v.content ≡ page_at pages v.page) (visits_below levels pages depth c)
-each_own pages zero depth c = tt
-each_own pages (suc levels) depth c = (refl, all_flat (λ v. v.content ≡ page_at pages v.page) (visits_below levels pages (depth + 1)) (each_own pages levels (depth + 1)) (children_of c.low c.high (page_at pages c.page)))
-
-pub one_of : (P : Visit → Type 0) (vs : List Visit) (v : Visit) → AllByRecursion P vs → (i : ℕ) → i < length vs → slice_index_or vs i v ≡ v → P v
-one_of P [] v all i lt is = absurd (omega arith)
-one_of P (w ∷ vs) v all zero lt is = subst P is all.0
-one_of P (w ∷ vs) v all (suc i) lt is = one_of P vs v all.1 i (omega arith) is
-
-pub own_content : (pages : List (List ℕ)) (visit : Visit) → Contains (visits pages) visit → visit.content ≡ page_at pages visit.page
-unfolding visits
-own_content pages visit has = one_of (λ v. v.content ≡ page_at pages v.page) (visits pages) visit (each_own pages (suc max_height) 1 top) has.0 has.1 has.2
 
 -- a page that is reached, and that the grammar refuses, breaks the table
 visited_by : (pages : List (List ℕ)) (visit : Visit) → Contains (visits pages) visit → IsVisited pages visit.depth (record { page = visit.page; low = visit.low; high = visit.high })

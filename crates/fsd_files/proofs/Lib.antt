@@ -1,6 +1,7 @@
 pub mod ChangeKept
 pub mod ChangeLaws
 pub mod CountLaws
+pub mod EachLaws
 pub mod FreshLaws
 pub mod HistoryLaws
 pub mod KeptLaws

@@ -23,6 +23,7 @@ use Rattle.fsd_files.specs.Files.{Change, File, Files, gone, gone_by_move, moved
 use Rattle.fsd_files.specs.Kept.{Lists}
 use Rattle.fsd_files.specs.Volume.{Volume, entries_without, is_in, plans_of}
 use Rattle.fsd_files.proofs.CountLaws.{contains_occurs, occurs, occurs_contains, used, used-cons}
+use Rattle.fsd_files.proofs.EachLaws.{each_kept, each_taken}
 use Rattle.fsd_files.proofs.FreshLaws.{IsAbsent, differs, new_is_highest, new_key_is_new, of_T, stands_last}
 use Rattle.fsd_files.proofs.HistoryLaws.{keys_total}
 use Rattle.fsd_files.proofs.ListingLaws.{AreFound, alike_is, found_both, lists_kept, same_key_is, same_key_turned}
@@ -36,19 +37,6 @@ each_passes test (x ∷ xs) = by (test x) refl (each_passes test xs)
     by : (b : Bool) → test x ≡ b → AllByRecursion (λ x. test x ≡ true) (filter test xs) → AllByRecursion (λ x. test x ≡ true) (cond b (x ∷ filter test xs) (filter test xs))
     by true is rest = (is, rest)
     by false is rest = rest
-
-each_left : {X : Type 0} (P : X → Type 0) (test : X → Bool) (xs : List X) → AllByRecursion P xs → AllByRecursion P (filter test xs)
-each_left P test [] all = tt
-each_left P test (x ∷ xs) all = by (test x) (each_left P test xs all.1)
-  where
-    by : (b : Bool) → AllByRecursion P (filter test xs) → AllByRecursion P (cond b (x ∷ filter test xs) (filter test xs))
-    by true rest = (all.0, rest)
-    by false rest = rest
-
-each_taken : {X : Type 0} (P : X → Type 0) (n : ℕ) (xs : List X) → AllByRecursion P xs → AllByRecursion P (take n xs)
-each_taken P zero xs all = tt
-each_taken P (suc n) [] all = tt
-each_taken P (suc n) (x ∷ xs) all = (all.0, each_taken P n xs all.1)
 
 turned : {X : Type 0} (p q : X → Bool) (xs : List X) → filter p (filter q xs) ≡ filter q (filter p xs)
 turned p q [] = refl
@@ -75,16 +63,17 @@ front_goes {X} P keep xs x all = by (keep == 0) refl
         subst (λ (ys : List X). AllByRecursion P (take 1 ys)) (sym (take-append-le (min 2 (length (xs ++ x ∷ []) - keep)) xs (x ∷ []) fewer))
         (each_taken P 1 (take (min 2 (length (xs ++ x ∷ []) - keep)) xs) (each_taken P (min 2 (length (xs ++ x ∷ []) - keep)) xs all))
 
-moved_out_mapped : {X Y : Type 0} (f : X → Y) (keep : ℕ) (xs : List X) → map f (moved_out keep xs) ≡ moved_out keep (map f xs)
-moved_out_mapped f keep xs = by (keep == 0)
+pub gone_mapped : {X Y : Type 0} (f : X → Y) (keep : ℕ) (xs : List X) → map f (gone keep xs) ≡ gone keep (map f xs)
+gone_mapped f keep xs = by (keep == 0)
   where
-    by : (b : Bool) → map f (take 1 (cond b [] (take (min 2 (length xs - keep)) xs))) ≡ take 1 (cond b [] (take (min 2 (length (map f xs) - keep)) (map f xs)))
+    by : (b : Bool) → map f (cond b [] (take (min 2 (length xs - keep)) xs)) ≡ cond b [] (take (min 2 (length (map f xs) - keep)) (map f xs))
     by true = refl
-    by false =
-        sym (take-map f 1 (take (min 2 (length xs - keep)) xs))
-        ∙ ap (take 1) (sym (take-map f (min 2 (length xs - keep)) xs) ∙ ap (λ (n : ℕ). take (min 2 (n - keep)) (map f xs)) (sym (length-map xs f)))
+    by false = sym (take-map f (min 2 (length xs - keep)) xs) ∙ ap (λ (n : ℕ). take (min 2 (n - keep)) (map f xs)) (sym (length-map xs f))
 
-keys_alike : (s : Files) (entries : List Entry) → Lists s entries → map (λ y. y.0) s ≡ map (λ e. e.key) entries
+moved_out_mapped : {X Y : Type 0} (f : X → Y) (keep : ℕ) (xs : List X) → map f (moved_out keep xs) ≡ moved_out keep (map f xs)
+moved_out_mapped f keep xs = sym (take-map f 1 (gone keep xs)) ∙ ap (take 1) (gone_mapped f keep xs)
+
+pub keys_alike : (s : Files) (entries : List Entry) → Lists s entries → map (λ y. y.0) s ≡ map (λ e. e.key) entries
 keys_alike [] [] lists = refl
 keys_alike [] (z ∷ entries) lists = absurd lists
 keys_alike (y ∷ s) [] lists = absurd lists
@@ -133,7 +122,7 @@ module _ (key : Key) (name : List ℕ) (x : File) (s : Files) where
   pub old_stays : list_any (same_key key) out ≡ false
   old_stays =
       none_of key (moved_out (moved_keep name x.keep s) versions)
-      (each_taken Differs 1 (gone (moved_keep name x.keep s) versions) (by (moved_keep name x.keep s == 0) versions (each_left Differs (λ y. same_bytes name y.0.name) others (differ others (each_passes (λ y. not (same_key y.0 key || false)) (with_moved name x s))))))
+      (each_taken Differs 1 (gone (moved_keep name x.keep s) versions) (by (moved_keep name x.keep s == 0) versions (each_kept Differs (λ y. same_bytes name y.0.name) others (differ others (each_passes (λ y. not (same_key y.0 key || false)) (with_moved name x s))))))
     where
       Differs : Key × File → Type 0
       Differs y = same_key key y.0 ≡ false
@@ -186,7 +175,7 @@ module _ (key : Key) (name : List ℕ) (x : File) (s : Files) where
           ap (λ (ys : Files). list_any (same_key k) (map (λ y. y.0) (moved_out (moved_keep name x.keep s) ys))) versions_then
           ∙ none_of k (moved_out (moved_keep name x.keep s) (of_name name (without_keys (key ∷ []) s) ++ (k, file) ∷ []))
           (front_goes (λ y. same_key k y.0 ≡ false) (moved_keep name x.keep s) (of_name name (without_keys (key ∷ []) s)) (k, file)
-          (each_left (λ y. same_key k y.0 ≡ false) (λ y. same_bytes name y.0.name) (without_keys (key ∷ []) s) (each_left (λ y. same_key k y.0 ≡ false) (λ y. not (list_any (same_key y.0) (key ∷ []))) s all_other)))
+          (each_kept (λ y. same_key k y.0 ≡ false) (λ y. same_bytes name y.0.name) (without_keys (key ∷ []) s) (each_kept (λ y. same_key k y.0 ≡ false) (λ y. not (list_any (same_key y.0) (key ∷ []))) s all_other)))
 
     module _ (there : find key_cmp key s ≡ Some x) where
       is_other : same_key k key ≡ false

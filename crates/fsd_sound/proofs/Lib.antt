@@ -38,5 +38,6 @@ pub mod TurningLaws
 pub mod TwiceLaws
 pub mod TwinLaws
 pub mod TwinMendLaws
+pub mod VisitLaws
 pub mod WindowLaws
 pub mod WritesLaws

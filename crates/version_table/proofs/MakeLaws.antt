@@ -10,12 +10,13 @@ use Rattle.fsd_table.proofs.BoundLaws.{Ascend}
 use Rattle.fsd_files.specs.Answers.{entry_of, highest_entry}
 use Rattle.fsd_files.specs.Files.{gone, keep_of, next_version}
 use Rattle.fsd_files.specs.Volume.{entries_at}
+use Rattle.fsd_files.proofs.EachLaws.{each_kept, each_taken}
 use Rattle.version_table.specs.declared.oldest.Leaving.{Leaving}
 use Rattle.version_table.specs.declared.planning.Plan.{Plan}
 use Rattle.version_table.specs.Met.{entries_left}
 use Rattle.version_table.specs.Plan.{IsPlan, IsPlanReady, key_left, keys_left}
 use Rattle.version_table.specs.Versions.{next_keep, next_key, oldest_beyond, versions_of}
-use Rattle.version_table.proofs.PlanLaws.{each_found, each_kept, each_mapped, each_taken, next_is_new}
+use Rattle.version_table.proofs.PlanLaws.{each_found, each_mapped, next_is_new}
 use Rattle.version_table.proofs.VersionLaws.{entries_of_keys, keys_beyond}
 
 pub used_up : (name : List ℕ) (table : List Entry) (highest : Option Entry) → highest_entry name table ≡ highest → option_map (λ e. e.key.version) highest ≡ Some (2 ^ 32 - 1) → max_u32 < (next_key name table).version

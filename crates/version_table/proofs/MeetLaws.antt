@@ -17,7 +17,8 @@ use Rattle.version_table.specs.declared.oldest.Oldest.{Oldest}
 use Rattle.version_table.specs.Met.{IsMetBetween, entries_left, leaving_of}
 use Rattle.version_table.specs.Table.{OfTable}
 use Rattle.version_table.specs.Versions.{IsFirstBehind, versions_behind, versions_of}
-use Rattle.version_table.proofs.PlanLaws.{each_taken, entries_good, entries_numbered}
+use Rattle.fsd_files.proofs.EachLaws.{each_taken}
+use Rattle.version_table.proofs.PlanLaws.{entries_good, entries_numbered}
 use Rattle.version_table.proofs.VersionLaws.{all_behind}
 
 -- ---- in the table

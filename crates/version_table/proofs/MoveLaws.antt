@@ -13,6 +13,7 @@ use Rattle.fsd_table.proofs.BoundLaws.{Ascend, ascend_tail}
 use Rattle.fsd_files.specs.Answers.{entry_of, highest_entry}
 use Rattle.fsd_files.specs.Files.{keep_of, moved_out, next_version}
 use Rattle.fsd_files.specs.Volume.{entries_at, entries_without}
+use Rattle.fsd_files.proofs.EachLaws.{each_kept, each_taken}
 use Rattle.name_page.specs.Lookups.{same_name}
 use Rattle.name_page.proofs.PutLaws.{ascend_head, gt_unequal, one_key}
 use Rattle.version_table.specs.declared.oldest.Leaving.{Leaving}
@@ -23,7 +24,6 @@ use Rattle.version_table.specs.Plan.{IsPlan, IsPlanReady, keys_left}
 use Rattle.version_table.specs.Versions.{next_keep, next_key, oldest_beyond, versions_of}
 use Rattle.version_table.proofs.EditLaws.{AllAbove, kept_ascend}
 use Rattle.version_table.proofs.MakeLaws.{beyond_at, keys_of}
-use Rattle.version_table.proofs.PlanLaws.{each_kept, each_taken}
 use Rattle.version_table.proofs.VersionLaws.{keys_beyond, same_both}
 
 -- ---- one key among entries that ascend

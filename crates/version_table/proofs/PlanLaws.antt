@@ -27,6 +27,7 @@ use Rattle.fsd_files.specs.Files.{File, Files, highest, keep_of, new_keep, new_k
 use Rattle.fsd_files.specs.Kept.{Lists}
 use Rattle.fsd_files.proofs.FreshLaws.{new_key_is_new}
 use Rattle.fsd_files.proofs.ListingLaws.{BothOrNone, highest_both}
+pub use Rattle.fsd_files.proofs.EachLaws.{each_kept}
 use Rattle.name_page.proofs.PutLaws.{ascend_head, lt_unequal, one_key}
 use Rattle.name_btree.specs.declared.lookup.FoundEntry.{FoundEntry}
 use Rattle.name_btree.specs.Lookup.{found_entry}
@@ -88,19 +89,6 @@ each_found (x ∷ xs) asc = (
   both (λ (e : Entry). key_lt x.key e.key ≡ true) (λ (e : Entry). entry_of e.key xs ≡ Some e) (λ (e : Entry). entry_of e.key (x ∷ xs) ≡ Some e) xs
       (λ e lt found. ap (λ (b : Bool). cond b (Some x) (entry_of e.key xs)) (lt_unequal x.key e.key lt) ∙ found) (ascend_head x.key xs asc) (each_found xs (ascend_tail x.key (entry_keys xs) asc)),
 )
-
-pub each_kept : (P : Entry → Type 0) (test : Entry → Bool) (xs : List Entry) → AllByRecursion P xs → AllByRecursion P (filter test xs)
-each_kept P test [] all = tt
-each_kept P test (x ∷ xs) all = by (test x) (each_kept P test xs all.1)
-  where
-    by : (b : Bool) → AllByRecursion P (filter test xs) → AllByRecursion P (cond b (x ∷ filter test xs) (filter test xs))
-    by true rest = (all.0, rest)
-    by false rest = rest
-
-pub each_taken : {X : Type 0} (P : X → Type 0) (n : ℕ) (xs : List X) → AllByRecursion P xs → AllByRecursion P (take n xs)
-each_taken P zero xs all = tt
-each_taken P (suc n) [] all = tt
-each_taken P (suc n) (x ∷ xs) all = (all.0, each_taken P n xs all.1)
 
 pub each_mapped : {X : Type 0} (P : Entry → Type 0) (f : X → Entry) (gs : List X) → AllByRecursion P (map f gs) → AllByRecursion (λ g. P (f g)) gs
 each_mapped P f [] all = tt

@@ -1,2 +1,3 @@
+pub mod CountedLaws
 pub mod DraftLaws
 pub mod OrderLaws

@@ -8,6 +8,7 @@ use Rattle.sector_disk.specs.Machine.{Ledger}
 use Rattle.fsd_sound.specs.Mounted.{most_waiting}
 use Rattle.volume_contract.specs.Order.{with_drawn}
 use Rattle.volume_contract.specs.State.{Counted, IsForced, State, change_len, force_len, forces_first, forces_for_place, put_len}
+pub use Rattle.volume_contract.proofs.CountedLaws.{counted_then}
 use Rattle.volume_laws.specs.Placing.{HasStored, place_len, place_now, store_len}
 use Rattle.volume_laws.proofs.PlaceSteps.{forces_as_waits, forces_once}
 use Rattle.volume_laws.proofs.PlaceLaws.{placed_ok}
@@ -17,10 +18,6 @@ use Rattle.volume_laws.proofs.PlaceLaws.{placed_ok}
 -- a call that failed has counted no more than this
 pub counted_fewer : (T : Type 0) {E : Type 0} (why : E) (n m : ℕ) (a b : Ledger) → n ≤ m → Counted {T = T} {E = E} (Err why) n a b → Counted {T = T} {E = E} (Err why) m a b
 counted_fewer T why n m a b le counted = (counted.0, omega (arith, counted.1, le))
-
-pub counted_then : {T E : Type 0} (r : Result T E) (n m : ℕ) (a b c : Ledger) → b.written ≡ a.written + n → Counted r m b c → Counted r (n + m) a c
-counted_then (Ok x) n m a b c first second = omega (arith, first, second)
-counted_then (Err why) n m a b c first second = (omega (arith, first, second.0), omega (arith, first, second.1))
 
 -- what comes behind writes nothing
 pub counted_as : {T E : Type 0} (r : Result T E) (n : ℕ) (a b : Ledger) → b.written ≡ a.written + n → Counted r n a b

@@ -21,6 +21,7 @@ use Rattle.fsd_files.specs.Answers.{enter_fault, entry_of}
 use Rattle.fsd_files.specs.Files.{new_key}
 use Rattle.fsd_files.specs.Volume.{entries_at, pages_free, plans_of}
 use Rattle.fsd_files.proofs.CountLaws.{differ_occurs, used}
+use Rattle.fsd_files.proofs.EachLaws.{each_kept}
 use Rattle.page_cache.specs.Cache.{CacheValue, IsCache}
 use Rattle.log_thirds.specs.LogValue.{LogValue}
 use Rattle.group_commit.specs.contracts.newest.NewestPageSource.TheImpl as by_log
@@ -29,7 +30,7 @@ use Rattle.table_pages.specs.Bringing.{IsTrusted}
 use Rattle.version_table.specs.declared.oldest.Leaving.{Leaving}
 use Rattle.version_table.specs.Met.{entries_left}
 use Rattle.version_table.specs.Versions.{next_key}
-use Rattle.version_table.proofs.PlanLaws.{each_found, each_kept, each_mapped, keys_agree}
+use Rattle.version_table.proofs.PlanLaws.{each_found, each_mapped, keys_agree}
 use Rattle.volume_contract.specs.State.{Known, Stands, volume_of}
 use Rattle.cached_table.specs.Editing.{EditsOnly, StaysInCache}
 use Rattle.cached_table.specs.Entering.{AreInTurn, AreTaken, LosesUntaken, NoneFor, OfTableIn}

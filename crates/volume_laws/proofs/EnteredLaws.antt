@@ -32,6 +32,7 @@ use Rattle.fsd_files.specs.Waiting.{Changes}
 use Rattle.fsd_files.proofs.FreshLaws.{IsAbsent, new_key_is_new}
 use Rattle.fsd_files.proofs.HistoryLaws.{after_in_order}
 use Rattle.fsd_files.proofs.WaitLaws.{open_taken}
+use Rattle.fsd_files.proofs.EachLaws.{each_kept}
 use Rattle.page_cache.specs.Cache.{CacheValue, IsCache, is_among}
 use Rattle.fsd_sound.specs.Mounted.{most_changed}
 use Rattle.group_commit.specs.contracts.newest.NewestPageSource.TheImpl as by_log
@@ -40,7 +41,7 @@ use Rattle.version_table.specs.declared.planning.Plan.{Plan}
 use Rattle.version_table.specs.Met.{entries_left}
 use Rattle.version_table.specs.Plan.{IsPlan, keys_left, planned_entry, with_planned}
 use Rattle.version_table.specs.Versions.{next_key}
-use Rattle.version_table.proofs.PlanLaws.{each_found, each_kept, each_mapped, keeps_agree, keys_agree, new_stays, next_is_new}
+use Rattle.version_table.proofs.PlanLaws.{each_found, each_mapped, keeps_agree, keys_agree, new_stays, next_is_new}
 use Rattle.volume_contract.specs.State.{Known, Stands, held_runs, volume_of}
 use Rattle.volume_laws.specs.Changing.{IsAfter, known_after}
 use Rattle.cached_table.specs.Editing.{EditsOnly, EditsTable}
@@ -98,7 +99,7 @@ module _ (v : Volume) (name bytes : List ℕ) (given : Option ℕ) (draft : Entr
   }
 
   keys_are : keys_left plan ≡ gone_keys name given bytes v.files
-  keys_are = planned.keys ∙ sym (gone_leave name given bytes v.files v.entries lists ascend)
+  keys_are = planned.keys ∙ sym (gone_leave name given bytes v.files v.entries sorted lists)
 
   -- the planned entries are those of the files' words
   pub entries_made : with_planned plan (planned_entry plan draft.serial draft.length draft.runs) v.entries ≡ volume_made.entries

@@ -27,6 +27,7 @@ use Rattle.fsd_files.specs.Volume.{Volume, entries_at, entries_without, in_versi
 use Rattle.fsd_files.specs.Waiting.{Changes, is_kept_alone}
 use Rattle.fsd_files.proofs.FreshLaws.{IsAbsent}
 use Rattle.fsd_files.proofs.ListingLaws.{lists_length, same_key_turned}
+use Rattle.fsd_files.proofs.MoveLaws.{entry_put_there, weight, weight_length, weight_put}
 use Rattle.fsd_table.proofs.KeyLaws.{keys_total}
 use Rattle.version_table.specs.declared.oldest.Leaving.{Leaving}
 use Rattle.version_table.specs.Met.{entries_left}
@@ -67,41 +68,6 @@ module _ (out : List Key) (e : Entry) (stays : list_any (same_key e.key) out ≡
       by Less other rest = ap (λ (ys : List Entry). is_in (plans_of ys) s) (left_first (z ∷ xs)) ∙ in_first s e (left_of (z ∷ xs)) ∙ or_comm r (is_in (plans_of (left_of (z ∷ xs))) s)
       by Equal other rest = absurd (other refl)
       by Greater other rest = behind (not (list_any (same_key z.key) out)) rest
-
-  count_put : (xs : List Entry) → IsAbsent e.key xs → length (left_of (entry_put e xs)) ≡ length (left_of xs) + 1
-  count_put [] absent = ap (λ (ys : List Entry). length ys) (left_first [])
-  count_put (z ∷ xs) absent = by (key_cmp e.key z.key) absent.0 (count_put xs absent.1)
-    where
-      behind : (b : Bool) → length (left_of (entry_put e xs)) ≡ length (left_of xs) + 1
-          → length (cond b (z ∷ left_of (entry_put e xs)) (left_of (entry_put e xs))) ≡ length (cond b (z ∷ left_of xs) (left_of xs)) + 1
-      behind true rest = omega (arith, rest)
-      behind false rest = rest
-
-      by : (o : Ordering) → (o ≡ Equal → ⊥) → length (left_of (entry_put e xs)) ≡ length (left_of xs) + 1
-          → length (left_of (by_order o (e ∷ z ∷ xs) (e ∷ xs) (z ∷ entry_put e xs))) ≡ length (left_of (z ∷ xs)) + 1
-      by Less other rest = omega (arith, ap (λ (ys : List Entry). length ys) (left_first (z ∷ xs)))
-      by Equal other rest = absurd (other refl)
-      by Greater other rest = behind (not (list_any (same_key z.key) out)) rest
-
-  -- it is found by its key
-  there_put : (xs : List Entry) → IsAbsent e.key xs → entry_of e.key (left_of (entry_put e xs)) ≡ Some e
-  there_put [] absent = ap (entry_of e.key) (left_first []) ∙ found_first []
-    where
-      found_first : (ys : List Entry) → entry_of e.key (e ∷ ys) ≡ Some e
-      found_first ys = ap (λ (b : Bool). cond b (Some e) (entry_of e.key ys)) (ap is_eq (tied_itself keys_total e.key))
-  there_put (z ∷ xs) absent = by (key_cmp e.key z.key) refl absent.0 (there_put xs absent.1)
-    where
-      found_first : (ys : List Entry) → entry_of e.key (e ∷ ys) ≡ Some e
-      found_first ys = ap (λ (b : Bool). cond b (Some e) (entry_of e.key ys)) (ap is_eq (tied_itself keys_total e.key))
-
-      behind : (b : Bool) → key_cmp e.key z.key ≡ Greater → entry_of e.key (left_of (entry_put e xs)) ≡ Some e → entry_of e.key (cond b (z ∷ left_of (entry_put e xs)) (left_of (entry_put e xs))) ≡ Some e
-      behind true is rest = ap (λ (o : Bool). cond o (Some z) (entry_of e.key (left_of (entry_put e xs)))) (sym (same_key_turned e.key z.key) ∙ ap is_eq is) ∙ rest
-      behind false is rest = rest
-
-      by : (o : Ordering) → key_cmp e.key z.key ≡ o → (o ≡ Equal → ⊥) → entry_of e.key (left_of (entry_put e xs)) ≡ Some e → entry_of e.key (left_of (by_order o (e ∷ z ∷ xs) (e ∷ xs) (z ∷ entry_put e xs))) ≡ Some e
-      by Less is other rest = ap (entry_of e.key) (left_first (z ∷ xs)) ∙ found_first (left_of (z ∷ xs))
-      by Equal is other rest = absurd (other refl)
-      by Greater is other rest = behind (not (list_any (same_key z.key) out)) is rest
 
 -- ---- what goes waits
 
@@ -210,23 +176,31 @@ module _ (v : Volume) (name bytes : List ℕ) (given : Option ℕ) (runs : List 
         same true false false false true free = refl
         same true false false false false free = refl
 
+    abbrev left : Entry → Bool
+    left z = not (list_any (same_key z.key) out)
+
     -- its entry is found
     pub made_there : entry_of new.key made.entries ≡ Some new
-    made_there = there_put out new stays v.entries absent
+    made_there = entry_put_there left new (ap not stays) v.entries absent
 
     -- as many files more as come, and fewer as go
     pub made_count : (gs : List Leaving) → entries_left gs ≡ entries_at out v.entries → Lists v.files v.entries → Lists made.files made.entries → length made.files + length gs ≡ length v.files + 1
-    made_count gs left lists made_lists =
+    made_count gs gone lists made_lists =
         omega (
           arith,
           lists_length made.files made.entries made_lists,
           lists_length v.files v.entries lists,
-          count_put out new stays v.entries absent,
+          weight_length made.entries,
+          one_more,
+          weight_length (entries_without out v.entries),
           split_count (λ x. list_any (same_key x.key) out) v.entries,
           as_many_left gs,
-          ap (λ (es : List Entry). length es) left,
+          ap (λ (es : List Entry). length es) gone,
         )
       where
+        one_more : weight (λ runs. 1) made.entries ≡ 1 + weight (λ runs. 1) (entries_without out v.entries)
+        one_more = weight_put left new (ap not stays) (λ runs. 1) v.entries absent
+
         as_many_left : (gs : List Leaving) → length (entries_left gs) ≡ length gs
         as_many_left [] = refl
         as_many_left (g ∷ gs) = omega (arith, as_many_left gs)

@@ -24,6 +24,7 @@ use Rattle.fsd_files.specs.Volume.{Volume, in_version, is_free, is_in, plans_of}
 use Rattle.fsd_files.specs.Waiting.{IsSpaced, are_same_or_apart, is_kept_alone, is_let_go}
 use Rattle.fsd_files.proofs.ChangeLaws.{AreFree, used-append}
 use Rattle.fsd_files.proofs.CountLaws.{contains_occurs, differ_occurs, occurs, occurs_contains, occurs_differ, used, used-cons}
+use Rattle.fsd_files.proofs.EachLaws.{each_kept}
 use Rattle.fsd_sound.specs.Mounted.{HasOpen, IsMounted, Mounted, Wrote}
 use Rattle.volume_contract.specs.State.{OpenParts, HeldVersion, WrittenDraft, readings}
 use Rattle.volume_contract.specs.Pieces.{drafts_without}
@@ -37,14 +38,6 @@ zip_each R f g (x ∷ xs) all = (all.0, zip_each R f g xs all.1)
 pub each_zip : {X A B : Type 0} (R : A → B → Type 0) (f : X → A) (g : X → B) (xs : List X) → AllByRecursion (λ x. R (f x) (g x)) xs → AllZip R (map f xs) (map g xs)
 each_zip R f g [] all = tt
 each_zip R f g (x ∷ xs) all = (all.0, each_zip R f g xs all.1)
-
-pub each_filtered : {X : Type 0} (P : X → Type 0) (p : X → Bool) (xs : List X) → AllByRecursion P xs → AllByRecursion P (filter p xs)
-each_filtered P p [] all = tt
-each_filtered P p (x ∷ xs) all = by (p x) (each_filtered P p xs all.1)
-  where
-    by : (b : Bool) → AllByRecursion P (filter p xs) → AllByRecursion P (if b then x ∷ filter p xs else filter p xs)
-    by true rest = (all.0, rest)
-    by false rest = rest
 
 -- ---- the volume with this open
 
@@ -374,7 +367,7 @@ module _ (m : Mounted) (o : OpenParts) (runs : List Run) (windows : List WeakRun
   mounted_fewer = reopened m o without_draft windows h f i is spaced_fewer
       (record {
         drafts = each_zip (λ slices runs. AllZip (Wrote (in_runs windows) i) slices (data_sectors runs)) (λ x. x.slices) (λ x. x.runs) (drafts_without o.drafts runs)
-            (each_filtered (λ (x : WrittenDraft). AllZip (Wrote (in_runs windows) i) x.slices (data_sectors x.runs)) (λ x. not (same_runs x.runs runs)) o.drafts
+            (each_kept (λ (x : WrittenDraft). AllZip (Wrote (in_runs windows) i) x.slices (data_sectors x.runs)) (λ x. not (same_runs x.runs runs)) o.drafts
             (zip_each (λ slices runs. AllZip (Wrote (in_runs windows) i) slices (data_sectors runs)) (λ x. x.slices) (λ x. x.runs) o.drafts is.open_ones.drafts));
         held = is.open_ones.held;
       })

@@ -20,6 +20,7 @@ use Rattle.fsd_files.specs.Volume.{is_free, is_in}
 use Rattle.fsd_files.specs.Waiting.{is_kept_alone}
 use Rattle.fsd_files.proofs.ChangeLaws.{AreFree}
 use Rattle.fsd_files.proofs.CountLaws.{differ_occurs, occurs_contains}
+use Rattle.fsd_files.proofs.EachLaws.{each_kept}
 use Rattle.fsd_sound.specs.Mounted.{IsMounted, Mounted, Wrote}
 use Rattle.volume_contract.specs.declared.token.Draft.{Draft}
 use Rattle.volume_contract.specs.Pieces.{GivesBack, IsDraft, TakesPlace, draft_begun, drafts_without, ended, slice_count, slices_in, with_opened}
@@ -30,7 +31,7 @@ use Rattle.volume_laws.specs.State.{IsMemoryOf, state}
 use Rattle.volume_laws.specs.Volume.{IsWholeVolume, VolumeValue}
 use Rattle.cached_table.specs.Surveying.{IsOfData}
 use Rattle.volume_laws.proofs.ForcedLaws.{own_of}
-use Rattle.volume_laws.proofs.OpenedLaws.{each_filtered, each_zip, zip_each, free_again, free_more, in_fewer, mounted_fewer, mounted_more, reopen, drafts_more}
+use Rattle.volume_laws.proofs.OpenedLaws.{each_zip, zip_each, free_again, free_more, in_fewer, mounted_fewer, mounted_more, reopen, drafts_more}
 use Rattle.volume_laws.proofs.WrittenLaws.{stands_drawn}
 use Rattle.volume_laws.proofs.SpaceLaws.{by_area, none_outside, same_free, same_freed, same_unfinished, same_waiting, same_waits, test_there}
 
@@ -210,7 +211,7 @@ module _ (v : VolumeValue) (whole : IsWholeVolume v) (runs : List Run) (are : Ar
       ∙ sym (in_fewer k.mounted k.opened runs k.windows k.changes (forced_of k) now.image disk there s))
       stands.opened.places
       (each_zip (λ slices rs. AllZip (Wrote (open_damage now.windows) now.image) slices (data_sectors rs)) (λ x. x.slices) (λ x. x.runs) (drafts_without k.opened.drafts runs)
-      (each_filtered (λ (x : WrittenDraft). AllZip (Wrote (open_damage now.windows) now.image) x.slices (data_sectors x.runs)) (λ x. not (same_runs x.runs runs)) k.opened.drafts
+      (each_kept (λ (x : WrittenDraft). AllZip (Wrote (open_damage now.windows) now.image) x.slices (data_sectors x.runs)) (λ x. not (same_runs x.runs runs)) k.opened.drafts
       (zip_each (λ slices rs. AllZip (Wrote (open_damage now.windows) now.image) slices (data_sectors rs)) (λ x. x.slices) (λ x. x.runs) k.opened.drafts (written_opened v k now stands))))
     where
       has_draft : (drafts : List WrittenDraft) → slices_in drafts runs ≡ Some before → list_any (λ x. same_runs x.runs runs) drafts ≡ true
