@@ -1,5 +1,5 @@
 -- How many slices a piece writes.
-use Rattle.std.proofs.Common.{◌≡◌, ◌⊎◌, inl, inr, subst, ℕ, ◌+◌, ◌-◌, ◌*◌, ◌/◌, ◌%◌, ◌≤◌, Bool, true, false, cond, refl, sym, ap, ◌∙◌, arith, Result, Ok, Err}
+use Rattle.std.proofs.Common.{◌≡◌, ◌⊎◌, inl, inr, subst, ℕ, ◌+◌, ◌-◌, ◌*◌, ◌/◌, ◌%◌, ◌≤◌, Bool, true, false, cond, refl, sym, ap, ◌∙◌, arith, Result}
 use Rattle.std.specs.Prelude.{◌==◌}
 use Rattle.std.proofs.lemmas.Bool.Decides.{eqb_tells}
 use Rattle.sector_disk.specs.Machine.{Ledger}
@@ -79,8 +79,3 @@ due_both len got n count le within =
 
 pub counted_so : {T E : Type 0} (r : Result T E) (n m : ℕ) (a b : Ledger) → n ≡ m → Counted r n a b → Counted r m a b
 counted_so r n m a b same counted = subst (λ (x : ℕ). Counted r x a b) same counted
-
--- two calls, of which the first has answered
-pub counted_then : {T E : Type 0} (r : Result T E) (n m : ℕ) (a b c : Ledger) → b.written ≡ a.written + n → Counted r m b c → Counted r (n + m) a c
-counted_then (Ok x) n m a b c first second = omega (arith, first, second)
-counted_then (Err why) n m a b c first second = (omega (arith, first, second.0), omega (arith, first, second.1))

@@ -11,7 +11,6 @@ use Rattle.volume_layout.specs.declared.layout.Layout.{Layout}
 use Rattle.volume_layout.specs.declared.fault.LayoutFault.{LayoutFault}
 use Rattle.volume_layout.specs.Layout.{least_size, plan}
 use Rattle.volume_layout.proofs.RootLaws.{ok_if}
-use Rattle.volume_layout.proofs.TurnedLaws.{planned_turned}
 use Rattle.sector_disk.specs.declared.machine.Machine.{Ghosts}
 use Rattle.sector_disk.specs.declared.sector.WeakRun.{WeakRun}
 use Rattle.sector_disk.specs.Calls.{IsHeld, StopsOnly, stops}
@@ -28,7 +27,7 @@ use Rattle.fsd_sound.specs.Shown.{told}
 use Rattle.fsd_sound.specs.Sound.{EndIn, IsPrefixOf, IsSaid, IsSound, weak_of}
 use Rattle.fsd_sound.specs.Sound.{Tells as TellsAt}
 use Rattle.fsd_sound.proofs.SoundLaws.{sound_still}
-use Rattle.fsd_sound.proofs.TurnedLaws.{said_sound, sound_turned}
+use Rattle.fsd_sound.proofs.TurnedLaws.{said_sound}
 use Rattle.fsd_sound.proofs.WindowLaws.{borne_narrow, last_snoc, open_is_weak}
 use Rattle.fsd_texts.specs.declared.fault.Fault.{Fault}
 use Rattle.fsd_texts.specs.declared.fault.Fault.TheVariants as Ended

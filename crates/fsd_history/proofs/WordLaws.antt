@@ -1,29 +1,21 @@
 -- What puts and lists say and do, in words of files.
 use Rattle.std.proofs.Common.{◌≡◌, ◌⊎◌, inl, inr, ℕ, zero, suc, Bool, true, false, List, [], ◌∷◌, ◌++◌, length, take, filter, Option, Some, None, refl, sym, ap, subst, ◌∙◌, arith}
 use Rattle.std.specs.Prelude.{nat_lt, if◌then◌else◌}
-use Rattle.std.specs.List.{flat_map, fold}
+use Rattle.std.specs.List.{fold}
 use Rattle.std.specs.FinMap.{find}
 use Rattle.std.proofs.lemmas.List.{append-nil, take_all}
 use Rattle.fsd_bytes.specs.declared.key.Key.{Key}
-use Rattle.fsd_bytes.specs.declared.key.Serial.{Serial}
 use Rattle.fsd_bytes.specs.declared.pattern.Pattern.{Pattern}
 use Rattle.fsd_bytes.specs.declared.pattern.Pattern.TheVariants.{Prefix}
-use Rattle.fsd_bytes.specs.declared.refusal.Refusal.{Refusal}
 use Rattle.fsd_bytes.specs.Keys.{fits, key_cmp}
-use Rattle.run_table.specs.declared.run.Run.{Run as SectorRun}
-use Rattle.run_table.specs.RunTable.{total}
-use Rattle.fsd_formats.specs.declared.entry.Entry.{Entry}
-use Rattle.fsd_formats.specs.NamePage.{sectors_for}
 use Rattle.sector_disk.specs.declared.machine.Machine.{Ghosts}
 use Rattle.sector_disk.specs.Machine.{Moment}
-use Rattle.fsd_files.specs.Answers.{Met, enter_fault, entered_unless, got, keep_given, no_place, put_at, put_unless, size_fault}
+use Rattle.fsd_files.specs.Answers.{got}
 use Rattle.fsd_files.specs.Disk.{Image}
-use Rattle.fsd_files.specs.Files.{Change, File, Files, new_key, step}
-use Rattle.fsd_files.specs.Kept.{IsEntryOf, Lists}
+use Rattle.fsd_files.specs.Files.{Change, File, Files, step}
 use Rattle.fsd_files.specs.declared.reply.Reply.{Reply}
 use Rattle.fsd_files.specs.declared.reply.Reply.TheVariants as Said
-use Rattle.fsd_files.specs.Volume.{Volume, drawn, forced_for_place, forced_if, place_for}
-use Rattle.fsd_sound.proofs.MountedLaws.{lists_long}
+use Rattle.fsd_files.specs.Volume.{Volume}
 use Rattle.fsd_texts.specs.declared.command.Command.{Command}
 use Rattle.fsd_texts.specs.declared.command.Command.TheVariants as Word
 use Rattle.fsd_texts.specs.declared.fault.Fault.TheVariants as Ended
@@ -31,9 +23,9 @@ use Rattle.fsd_texts.specs.declared.script_command.ScriptCommand.TheVariants.{Pl
 use Rattle.fsd_texts.specs.Script.{max_input}
 use Rattle.fsd_runs.specs.declared.request.Request.{Request}
 use Rattle.fsd_runs.specs.declared.request.Request.TheVariants as Asks
-use Rattle.fsd_runs.specs.Commands.{answer, changes_of, listed_text, reply_alone, reply_status, version_text}
-use Rattle.fsd_runs.specs.Errands.{Cut, Errand, MayCut, Turn, answered_so, blank, errand_alone, nothing_but}
-use Rattle.fsd_runs.specs.Runs.{answered, changes_in, errand_in, said_in, turn_of, turns_of}
+use Rattle.fsd_runs.specs.Commands.{changes_of, reply_alone, reply_status}
+use Rattle.fsd_runs.specs.Errands.{Cut, Errand, MayCut, Turn, blank, errand_alone, nothing_but}
+use Rattle.fsd_runs.specs.Runs.{answered, changes_in, errand_in, said_in, turns_of}
 use Rattle.fsd_runs.specs.Sessions.{Meeting, session_over}
 use Rattle.cfs_program.specs.Drill.{list_text}
 use Rattle.cfs_program.specs.Program.{input_for}

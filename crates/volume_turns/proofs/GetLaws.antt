@@ -1,5 +1,5 @@
 -- A get reads a whole version, however long it is.
-use Rattle.std.proofs.Common.{◌≡◌, ◌<◌, ◌≤◌, ◌&&◌, ℕ, zero, suc, ◌+◌, true, List, [], ◌∷◌, length, take, drop, Option, Some, None, inl, inr, refl, sym, ◌∙◌, ap, subst, arith}
+use Rattle.std.proofs.Common.{◌≡◌, ◌<◌, ◌≤◌, ◌&&◌, ℕ, zero, suc, ◌+◌, true, List, [], ◌∷◌, length, take, drop, Option, Some, None, inl, inr, sym, ◌∙◌, ap, subst, arith}
 use Rattle.std.specs.Prelude.{◌⊎◌, ◌==◌, ◌++◌, Contains, IfErr, IsTrue, Result, map, nat_le, slice_index_or}
 use Rattle.std.specs.List.{AllByRecursion, list_all}
 use Rattle.std.proofs.lemmas.Bool.{and_parts, leb-true}
@@ -10,10 +10,8 @@ use Rattle.fsd_bytes.specs.declared.key.Key.{Key}
 use Rattle.run_table.specs.RunTable.{are_runs, total}
 use Rattle.fsd_formats.specs.declared.entry.Entry.{Entry}
 use Rattle.fsd_formats.specs.NamePage.{Content, Free, Interior, Leaf, are_ascending, contents_of, is_entry, least_used, max_keep, max_length, room, sectors_for}
-use Rattle.fsd_table.specs.declared.child.Child.{Child}
-use Rattle.fsd_table.specs.Pages.{children_of, entries_of, page_at}
-use Rattle.fsd_table.specs.Table.{Visit, max_height, top, visits, visits_below}
-use Rattle.fsd_table.proofs.BoundLaws.{all_flat}
+use Rattle.fsd_table.specs.Pages.{entries_of, page_at}
+use Rattle.fsd_table.specs.Table.{Visit, visits}
 use Rattle.fsd_table.proofs.PageLaws.{at_is_page}
 use Rattle.fsd_files.specs.Disk.{Image}
 use Rattle.fsd_files.specs.Kept.{IsWhole, range_sectors}
@@ -25,6 +23,7 @@ use Rattle.sector_disk.specs.Calls.{OnlyReads}
 use Rattle.sector_disk.specs.Machine.{Ledger}
 use Rattle.scrub.specs.Telling.{AreOfPage}
 use Rattle.fsd_table.specs.Reached.{ReachesPage}
+use Rattle.fsd_sound.proofs.VisitLaws.{own_content}
 use Rattle.volume_contract.specs.Found.{HasRange}
 use Rattle.volume_contract.specs.State.{State, is_worn}
 use Rattle.volume_turns.specs.Did.{TellsAnswer}
@@ -46,19 +45,6 @@ entry_short e good =
     let sized = and_parts (is_key e.key && nat_le e.keep max_keep && nat_le e.length max_length && are_runs e.runs) (total e.runs == sectors_for e.length) good in
     let runs = and_parts (is_key e.key && nat_le e.keep max_keep && nat_le e.length max_length) (are_runs e.runs) sized.0 in
     leb-true e.length max_length (and_parts (is_key e.key && nat_le e.keep max_keep) (nat_le e.length max_length) runs.0).1
-
-each_own : (pages : List (List ℕ)) (levels depth : ℕ) (c : Child) → AllByRecursion (λ v. v.content ≡ page_at pages v.page) (visits_below levels pages depth c)
-each_own pages zero depth c = tt
-each_own pages (suc levels) depth c = (refl, all_flat (λ v. v.content ≡ page_at pages v.page) (visits_below levels pages (depth + 1)) (each_own pages levels (depth + 1)) (children_of c.low c.high (page_at pages c.page)))
-
-one_of : (P : Visit → Type 0) (vs : List Visit) (v : Visit) → AllByRecursion P vs → (i : ℕ) → i < length vs → slice_index_or vs i v ≡ v → P v
-one_of P [] v all i lt is = absurd (omega arith)
-one_of P (w ∷ vs) v all zero lt is = subst P is all.0
-one_of P (w ∷ vs) v all (suc i) lt is = one_of P vs v all.1 i (omega arith) is
-
-own_content : (pages : List (List ℕ)) (visit : Visit) → Contains (visits pages) visit → visit.content ≡ page_at pages visit.page
-unfolding visits
-own_content pages visit has = one_of (λ v. v.content ≡ page_at pages v.page) (visits pages) visit (each_own pages (suc max_height) 1 top) has.0 has.1 has.2
 
 found_short : (pages : List (List ℕ)) (visit : Visit) → Contains (visits pages) visit → (e : Entry) → Contains (entries_of visit.content) e → e.length ≤ max_length
 found_short pages visit has e there = by visit.content (sym (own_content pages visit has)) there

@@ -11,7 +11,8 @@ use Rattle.fsd_files.specs.Disk.{Touches}
 use Rattle.fsd_files.specs.Kept.{data_sectors}
 use Rattle.run_table.specs.Space.{contains}
 use Rattle.client_desk.specs.Clients.{draft_sectors}
-use Rattle.client_desk.proofs.CountLaws.{counted_so, counted_then, due_both, more_slices}
+use Rattle.volume_contract.proofs.CountedLaws.{counted_then}
+use Rattle.client_desk.proofs.CountLaws.{counted_so, due_both, more_slices}
 use Rattle.client_desk.proofs.PieceLaws.{adds_then, breaks_then, leaves_on, touches_both}
 use Rattle.client_desk.proofs.pieces.add.Goals as goal
 
