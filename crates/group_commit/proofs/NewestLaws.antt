@@ -22,13 +22,13 @@ use Rattle.fsd_sound.specs.Laid.{AllLaid}
 use Rattle.fsd_sound.specs.Shown.{newest, records_by}
 use Rattle.fsd_sound.specs.Sound.{weak_of}
 use Rattle.fsd_sound.proofs.WindowLaws.{open_is_weak}
-use Rattle.log_thirds.specs.Images.{AreLogged, StandsInSlot}
+use Rattle.log_thirds.specs.Images.{AreLogged, StandsInSlot, IsUnlogged}
 use Rattle.log_thirds.specs.LogValue.{LogValue}
 use Rattle.fsd_log.specs.Slots.{last_slot}
 use Rattle.fsd_log.specs.declared.slot.Slot.{Slot}
 use Rattle.log_thirds.proofs.ImageLaws.{no_last_image}
 use Rattle.group_commit.specs.KnownLaws.{known_newest, knows_worn, newest_worn}
-use Rattle.group_commit.specs.Newest.{AreCopiesIn, IsUnlogged, KnowsPages, StandsAtHome, StandsByLog, newest_by}
+use Rattle.group_commit.specs.Newest.{AreCopiesIn, KnowsPages, StandsAtHome, StandsByLog, newest_by}
 use Rattle.group_commit.proofs.GivenLaws.{given_is, never_lost}
 
 -- ---- at home

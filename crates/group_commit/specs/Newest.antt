@@ -14,7 +14,7 @@ use Rattle.fsd_sound.specs.Shown.{newest, records_by}
 use Rattle.fsd_sound.specs.Sound.{EndIn, weak_of}
 use Rattle.fsd_sound.specs.Windows.{IsApart}
 use Rattle.log_thirds.specs.Append.{IsIndexed}
-use Rattle.log_thirds.specs.Images.{AreLogged, StandsInSlot}
+use Rattle.log_thirds.specs.Images.{AreLogged, StandsInSlot, IsUnlogged}
 use Rattle.log_thirds.specs.LogValue.{LogValue, FitsLayout}
 use Rattle.group_commit.specs.Entering.{OwnsLog}
 
@@ -38,10 +38,6 @@ pub record KnowsPages (log : LogValue) (at : Moment) : Type 0 where
   pub over : OwnsLog log records disk windows at.image
 
 -- ---- the two copies of a page
-
--- the log has no slot of the page
-abbrev pub IsUnlogged : LogValue → (page : ℕ) → Type 0
-IsUnlogged log page = slice_index_or log.slots page None ≡ None
 
 -- the sectors are the page's own and its copy in the log; or its two homes, where it is not logged
 abbrev pub AreCopiesIn : LogValue → (page a b : ℕ) → Type 0

@@ -61,3 +61,7 @@ pub record StandsInSlot (slot : Option Slot) (image : List Sector) (bytes : List
   pub b : ℕ
   pub lies : LiesAt slot a b
   pub stands : (sector_at image a ≡ Whole bytes) ⊎ (sector_at image b ≡ Whole bytes)
+
+-- the log has no image of the page
+abbrev pub IsUnlogged : LogValue → (page : ℕ) → Type 0
+IsUnlogged log page = slice_index_or log.slots page None ≡ None

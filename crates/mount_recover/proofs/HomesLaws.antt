@@ -14,8 +14,9 @@ use Rattle.fsd_sound.proofs.CommuteLaws.{with_same, with_other}
 use Rattle.fsd_sound.specs.Homes.{HasBothHomes, HasSome}
 use Rattle.twin_home.specs.Heal.{Healed}
 use Rattle.log_thirds.specs.LogValue.{LogValue}
+use Rattle.log_thirds.specs.Images.{IsUnlogged}
 use Rattle.fsd_log.specs.declared.slot.Slot.{Slot}
-use Rattle.mount_recover.specs.Mending.{AreHomed, IsHomeOf, KeepsBut, LacksPage, StaysBut, logged_count, one_if_some}
+use Rattle.mount_recover.specs.Mending.{AreHomed, IsHomeOf, KeepsBut, StaysBut, logged_count, one_if_some}
 use Rattle.mount_recover.proofs.MendingLaws.{here_or, home_from, home_other, home_same_page}
 use Rattle.mount_recover.proofs.MountLaws.{open_settled}
 
@@ -74,19 +75,19 @@ module _ (l : Layout) (log : LogValue) where
   }
 
   -- the log does not have the page
-  pub homed_skip : (page : ℕ) → page < l.pages → (place : ℕ) → IsHomeOf l page place → LacksPage log page → (old new : Moment) → KeepsBut place place old new → AreHomed l log place 0 old → AreHomed l log (place + 1) 0 new
+  pub homed_skip : (page : ℕ) → page < l.pages → (place : ℕ) → IsHomeOf l page place → IsUnlogged log page → (old new : Moment) → KeepsBut place place old new → AreHomed l log place 0 old → AreHomed l log (place + 1) 0 new
   homed_skip page lt place home lacks old new but at = record {
     written = λ p s within has at_home before. ⊎_elim
         (λ less. let other : s ≢ place = λ is. omega (arith, is, less) in some_on old new place place s other other but (at.written p s within has at_home less))
-        (λ is. absurd (has (subst (LacksPage log) (sym (home_same_page l p page place within lt (subst (IsHomeOf l p) is at_home) home)) lacks))) (here_or s place before);
+        (λ is. absurd (has (subst (IsUnlogged log) (sym (home_same_page l p page place within lt (subst (IsHomeOf l p) is at_home) home)) lacks))) (here_or s place before);
     healed = λ page lt. absurd (omega (arith, lt));
   }
 
   -- the page was healed
-  pub homed_heal : (end n : ℕ) → n < l.pages → LacksPage log n → (old new : Moment) → KeepsBut (home_a l n) (home_b l n) old new → HasBothHomes l new n → AreHomed l log end n old → AreHomed l log end (n + 1) new
+  pub homed_heal : (end n : ℕ) → n < l.pages → IsUnlogged log n → (old new : Moment) → KeepsBut (home_a l n) (home_b l n) old new → HasBothHomes l new n → AreHomed l log end n old → AreHomed l log end (n + 1) new
   homed_heal end n lt lacks old new but both at = record {
     written = λ p s within has home before.
-        let other : p ≢ n = λ is. has (subst (LacksPage log) (sym is) lacks) in
+        let other : p ≢ n = λ is. has (subst (IsUnlogged log) (sym is) lacks) in
         some_on old new (home_a l n) (home_b l n) s (home_other l p n (home_a l n) s within lt other home (inl refl)) (home_other l p n (home_b l n) s within lt other home (inr refl)) but (at.written p s within has home before);
     healed = λ p le within free. ⊎_elim
         (λ low. both_on l p old new (home_a l n) (home_b l n) (λ is. omega (arith, is, low)) (λ is. omega (arith, is, within)) (λ is. omega (arith, is, lt)) (λ is. omega (arith, is, low)) but (at.healed p low within free))
@@ -94,10 +95,10 @@ module _ (l : Layout) (log : LogValue) where
   }
 
   -- the log has the page
-  pub homed_has : (end n : ℕ) → (LacksPage log n → ⊥) → (now : Moment) → AreHomed l log end n now → AreHomed l log end (n + 1) now
+  pub homed_has : (end n : ℕ) → (IsUnlogged log n → ⊥) → (now : Moment) → AreHomed l log end n now → AreHomed l log end (n + 1) now
   homed_has end n has now at = record {
     written = at.written;
-    healed = λ p le within lacks. ⊎_elim (λ low. at.healed p low within lacks) (λ is. absurd (has (subst (LacksPage log) is lacks))) (here_or p n le);
+    healed = λ p le within lacks. ⊎_elim (λ low. at.healed p low within lacks) (λ is. absurd (has (subst (IsUnlogged log) is lacks))) (here_or p n le);
   }
 
   -- then each page has both
@@ -107,7 +108,7 @@ module _ (l : Layout) (log : LogValue) where
       by_slot : (o : Option Slot) → slice_index_or log.slots page None ≡ o → HasBothHomes l now page
       by_slot None is = at.healed page lt lt is
       by_slot (Some slot) is =
-          let has : LacksPage log page → ⊥ = λ none. some_slot slot (sym is ∙ none) in
+          let has : IsUnlogged log page → ⊥ = λ none. some_slot slot (sym is ∙ none) in
           (at.written page (home_a l page) lt has (inl refl) (omega (arith, lt)), at.written page (home_b l page) lt has (inr refl) (omega (arith, lt)))
 
 -- ---- how many the log has

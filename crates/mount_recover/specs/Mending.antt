@@ -21,7 +21,7 @@ use Rattle.log_thirds.specs.LogValue.{LogValue}
 use Rattle.fsd_log.specs.declared.slot.Slot.{Slot}
 use Rattle.fsd_sound.specs.declared.fault.MountFault.{MountFault}
 use Rattle.fsd_sound.specs.declared.fault.MountFault.TheVariants.{NotVolume, Device, Memory, Lost, NoAnchor, Unsound, WornOut}
-use Rattle.log_thirds.specs.Images.{AreOfLogged}
+use Rattle.log_thirds.specs.Images.{AreOfLogged, IsUnlogged}
 use Rattle.fsd_sound.specs.Lost.{AreHomes}
 use Rattle.mount_recover.specs.Replay.{HasLastCopies, KeepsBehindLog, IsBehindSettle}
 use Rattle.fsd_sound.specs.Logged.{IsLogged}
@@ -131,10 +131,6 @@ pub record Completed (l : Layout) (windows : List WeakRun) (choices : List (List
 abbrev pub IsHomeOf : Layout → (page s : ℕ) → Type 0
 IsHomeOf l page s = (s ≡ home_a l page) ⊎ (s ≡ home_b l page)
 
--- the log has no image of the page
-abbrev pub LacksPage : LogValue → (page : ℕ) → Type 0
-LacksPage log page = slice_index_or log.slots page None ≡ None
-
 -- one for a page that the log has
 abbrev pub one_if_some : Option Slot → ℕ
 one_if_some None = 0
@@ -161,8 +157,8 @@ pub record IsMending (l : Layout) (windows : List WeakRun) (choices : List (List
 -- Of any image: of the pages that the log has each home before this sector stands, but for what the open window may wear;
 -- of the other pages both homes of so many first ones.
 pub record AreHomed (l : Layout) (log : LogValue) (end n : ℕ) (now : Moment) : Type 0 where
-  pub written : (page s : ℕ) → page < l.pages → (LacksPage log page → ⊥) → IsHomeOf l page s → s < end → HasSome now s
-  pub healed : (page : ℕ) → page < n → page < l.pages → LacksPage log page → HasBothHomes l now page
+  pub written : (page s : ℕ) → page < l.pages → (IsUnlogged log page → ⊥) → IsHomeOf l page s → s < end → HasSome now s
+  pub healed : (page : ℕ) → page < n → page < l.pages → IsUnlogged log page → HasBothHomes l now page
 
 -- All pages are mended, and both roots.
 pub record IsMended (l : Layout) (windows : List WeakRun) (choices : List (List (List ℕ))) (log : LogValue) (first : Moment) (c : IsCompleted l windows choices log first) (now : Moment) : Type 0 where

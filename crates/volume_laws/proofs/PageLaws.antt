@@ -16,9 +16,9 @@ use Rattle.fsd_sound.specs.Mounted.{StandsOver, image_at}
 use Rattle.fsd_sound.specs.Shown.{records_by}
 use Rattle.log_thirds.specs.Append.{IsIndexed}
 use Rattle.log_thirds.specs.Disk.{reads}
-use Rattle.log_thirds.specs.Images.{AreLogged}
+use Rattle.log_thirds.specs.Images.{AreLogged, IsUnlogged}
 use Rattle.log_thirds.proofs.ImageLaws.{image_there, no_last_image}
-use Rattle.group_commit.specs.Newest.{AreCopiesIn, IsUnlogged, newest_by}
+use Rattle.group_commit.specs.Newest.{AreCopiesIn, newest_by}
 use Rattle.group_commit.proofs.NewestLaws.{in_layout}
 use Rattle.group_commit.proofs.StandsLaws.{page_newest, page_in_memory}
 use Rattle.volume_contract.specs.State.{Known, Stands}

@@ -8,13 +8,14 @@ use Rattle.sector_disk.proofs.Moments.{started}
 use Rattle.fsd_log.specs.Images.{last_image}
 use Rattle.fsd_sound.specs.Homes.{HasBothHomes}
 use Rattle.fsd_sound.specs.Shown.{records_by}
-use Rattle.mount_recover.specs.Mending.{AreHomed, IsMending, LacksPage, StaysShown}
+use Rattle.mount_recover.specs.Mending.{AreHomed, IsMending, StaysShown}
 use Rattle.mount_recover.proofs.HomesLaws.{count_has, count_lacks, homed_has, homed_heal}
 use Rattle.mount_recover.proofs.KeepsLaws.{keeps_none, keeps_page}
 use Rattle.mount_recover.proofs.MendingLaws.{heal_skips, stays}
 use Rattle.mount_recover.proofs.ShowingLaws.{loses_so, showing_heal}
 use Rattle.mount_recover.proofs.SlotLaws.{slot_has, slot_none}
 use Rattle.mount_recover.proofs.mending.heal_other.Goals as goal
+use Rattle.log_thirds.specs.Images.{IsUnlogged}
 
 -- ---- a page that the log has
 
@@ -26,19 +27,19 @@ returns-then-has-clause-keeps g c h = keeps_none c.args.l.now (g.M.Machine.now c
 
 pub returns-then-has-clause-most : goal.returns-then-has-clause-most
 returns-then-has-clause-most g c t =
-    let has : LacksPage c.args.log.now c.args.page → ⊥ = λ lacks. absurd (cc (c.has.ensures.slot.1 lacks, c.if-has.true)) in
+    let has : IsUnlogged c.args.log.now c.args.page → ⊥ = λ lacks. absurd (cc (c.has.ensures.slot.1 lacks, c.if-has.true)) in
     omega (arith, count_has (slice_index_or c.args.log.now.slots c.args.page None) has)
 
 pub returns-then-has-clause-homes : goal.returns-then-has-clause-homes
 returns-then-has-clause-homes g c h at =
-    let has : LacksPage c.args.log.now c.args.page → ⊥ = λ lacks. absurd (cc (c.has.ensures.slot.1 lacks, c.if-has.true)) in
+    let has : IsUnlogged c.args.log.now c.args.page → ⊥ = λ lacks. absurd (cc (c.has.ensures.slot.1 lacks, c.if-has.true)) in
     homed_has c.args.l.now c.args.log.now (home_b c.args.l.now c.args.l.now.pages) c.args.page has (g.M.Machine.now c.args.m.now) at
 
 pub returns-then-has-clause-goes_on : goal.returns-then-has-clause-goes_on
 returns-then-has-clause-goes_on g c windows choices first is h at =
     let M = g.M.Machine in
     let l = c.args.l.now in let log = c.args.log.now in let old = M.now c.args.m.now in
-    let has : LacksPage c.args.log.now c.args.page → ⊥ = λ lacks. absurd (cc (c.has.ensures.slot.1 lacks, c.if-has.true)) in
+    let has : IsUnlogged c.args.log.now c.args.page → ⊥ = λ lacks. absurd (cc (c.has.ensures.slot.1 lacks, c.if-has.true)) in
     record {
       any_moment = started M.moment M.left_since c.args.m.now old (StaysShown l windows choices first) (λ left now. g.met.M.Machine.only_now c.args.m.now left h now)
           (stays l windows choices log first is (home_b l l.pages) c.args.page old at old (wears_none old));

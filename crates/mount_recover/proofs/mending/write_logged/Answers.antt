@@ -11,10 +11,11 @@ use Rattle.fsd_log.specs.Scan.{Placed}
 use Rattle.fsd_files.specs.Disk.{Image}
 use Rattle.fsd_sound.specs.Homes.{HasSome}
 use Rattle.log_thirds.specs.Append.{IsCalmNow}
+use Rattle.log_thirds.specs.Images.{IsUnlogged}
 use Rattle.fsd_sound.specs.Shown.{records_by}
 use Rattle.mount_recover.specs.Finding.{IsExcuse}
 use Rattle.fsd_sound.specs.Lost.{LostIn}
-use Rattle.mount_recover.specs.Mending.{AreHomed, AreOfVolume, IsMending, LacksPage, StaysShown}
+use Rattle.mount_recover.specs.Mending.{AreHomed, AreOfVolume, IsMending, StaysShown}
 use Rattle.mount_recover.specs.Showing.{IsShowing, LosesNone}
 use Rattle.mount_recover.proofs.CalmLaws.{still_worn, still_next, given_on, device_loses, excuse_loses}
 use Rattle.mount_recover.proofs.FaultLaws.{either_end, excuse_lost, load_excused, load_lost, is_load, load_told}
@@ -138,12 +139,12 @@ pub returns-in-Ok-false-clause-homes : goal.returns-in-Ok-false-clause-homes
 returns-in-Ok-false-clause-homes g c h at =
     let M = g.M.Machine in
     let now = M.now c.args.m.now in let read = M.now c.image_of.new.m in
-    let lacks : LacksPage c.args.log.now c.args.page = c.in-Ok-false.ensures.absent.0 (λ i. Ok (c.in-Ok-false.field-0-test i)) in
+    let lacks : IsUnlogged c.args.log.now c.args.page = c.in-Ok-false.ensures.absent.0 (λ i. Ok (c.in-Ok-false.field-0-test i)) in
     homed_skip c.args.l.now c.args.log.now c.args.page c.requires.page c.args.place c.requires.home lacks now read (but_read c.args.place c.args.place now read (c.image_of.ensures.reads.worn h)) at
 
 pub returns-in-Ok-true-clause-most : goal.returns-in-Ok-true-clause-most
 returns-in-Ok-true-clause-most g c t =
-    let has : LacksPage c.args.log.now c.args.page → ⊥ = λ lacks. absurd (cc (c.in-Ok-true.ensures.absent.1 lacks, c.in-Ok-true.field-0-test)) in
+    let has : IsUnlogged c.args.log.now c.args.page → ⊥ = λ lacks. absurd (cc (c.in-Ok-true.ensures.absent.1 lacks, c.in-Ok-true.field-0-test)) in
     omega (arith, c.put_home.ensures.counts.most t, ap (λ (x : Ledger). x.written) (c.image_of.ensures.reads.ledger (c.put_home.ensures.writes.disk.trust.tells t)), count_has (slice_index_or c.args.log.now.slots c.args.page None) has)
 
 pub returns-in-Ok-false-clause-most : goal.returns-in-Ok-false-clause-most

@@ -2,7 +2,8 @@ use Rattle.std.proofs.Common.{◌≡◌, ◌<◌, Bool, Ok, Some, sym, ap, subst
 use Rattle.std.proofs.lemmas.Result.{err_from_is_err_and, on_ok_weaker, IfErr-weaker}
 use Rattle.sector_disk.specs.Damage.{IsDevice}
 use Rattle.log_thirds.specs.LogValue.{LogValue}
-use Rattle.group_commit.specs.Newest.{IsUnlogged, KnowsPages, newest_by}
+use Rattle.log_thirds.specs.Images.{IsUnlogged}
+use Rattle.group_commit.specs.Newest.{KnowsPages, newest_by}
 use Rattle.group_commit.proofs.NewestLaws.{logged_newest, logged_lost, copy_stands, copies_lost, home_newest, home_lost}
 use Rattle.group_commit.proofs.newest.NewestPageSource.load.Given as given
 use Rattle.group_commit.proofs.newest.NewestPageSource.load.Goals as goal
