@@ -1,6 +1,6 @@
 -- What paths from page 0 reach.
-use Rattle.std.proofs.Common.{◌≡◌, ℕ, zero, suc, ◌+◌, ◌<◌, ◌&&◌, true, List, [], ◌∷◌, length, Option, Some, None, refl, ap, subst, ◌∙◌, arith}
-use Rattle.std.specs.Prelude.{Contains, map, nat_lt, slice_index_or}
+use Rattle.std.proofs.Common.{◌≡◌, ℕ, zero, suc, ◌+◌, ◌<◌, ◌&&◌, true, List, [], ◌∷◌, length, Option, Some, None, refl, ap, subst, ◌∙◌}
+use Rattle.std.specs.Prelude.{Contains, map, nat_lt}
 use Rattle.std.specs.List.{AllByRecursion, flat_map, list_all}
 use Rattle.std.proofs.lemmas.Bool.{and_parts, ltb-true}
 use Rattle.fsd_bytes.specs.declared.key.Key.{Key}
@@ -11,7 +11,7 @@ use Rattle.fsd_formats.specs.NamePage.{Content, Free, Leaf, Interior, is_page, a
 use Rattle.fsd_table.specs.declared.child.Child.{Child}
 use Rattle.fsd_table.specs.Pages.{children, children_of, content_fits, page_at}
 use Rattle.fsd_table.specs.Table.{BreaksTable, IsVisited, Visit, max_height, top, visits, visits_below}
-use Rattle.fsd_table.proofs.BoundLaws.{all_append, all_flat}
+use Rattle.fsd_table.proofs.BoundLaws.{all_append}
 use Rattle.fsd_table.proofs.BreakLaws.{misfit_breaks}
 use Rattle.fsd_table.proofs.PageLaws.{at_is_page}
 use Rattle.fsd_sound.proofs.VisitLaws.{one_of}

@@ -6,9 +6,7 @@ use Rattle.std.specs.declared.cmp.Ordering.TheVariants.{Less, Equal, Greater}
 use Rattle.std.specs.FinMap.Entries.{by_order}
 use Rattle.std.proofs.Math.Bool.{or_comm, or-false, or_assoc}
 use Rattle.std.proofs.lemmas.Bool.{and_parts, cases_lt, false_from_ne_true, leb-true, ltb-true, or_left}
-use Rattle.std.proofs.lemmas.Cmp.{tied_itself}
 use Rattle.std.proofs.lemmas.List.Folds.{list_any-append}
-use Rattle.std.specs.Ordering.{is_eq}
 use Rattle.volume_layout.specs.declared.layout.Layout.{Layout}
 use Rattle.volume_layout.specs.Layout.{data_start, is_data}
 use Rattle.fsd_bytes.specs.declared.key.Key.{Key}
@@ -26,9 +24,8 @@ use Rattle.fsd_files.specs.Kept.{Lists}
 use Rattle.fsd_files.specs.Volume.{Volume, entries_at, entries_without, in_version, is_free, is_in, plans_of}
 use Rattle.fsd_files.specs.Waiting.{Changes, is_kept_alone}
 use Rattle.fsd_files.proofs.FreshLaws.{IsAbsent}
-use Rattle.fsd_files.proofs.ListingLaws.{lists_length, same_key_turned}
+use Rattle.fsd_files.proofs.ListingLaws.{lists_length}
 use Rattle.fsd_files.proofs.MoveLaws.{entry_put_there, weight, weight_length, weight_put}
-use Rattle.fsd_table.proofs.KeyLaws.{keys_total}
 use Rattle.version_table.specs.declared.oldest.Leaving.{Leaving}
 use Rattle.version_table.specs.Met.{entries_left}
 use Rattle.cached_table.specs.Entering.{with_gone}

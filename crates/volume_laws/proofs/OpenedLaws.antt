@@ -1,5 +1,5 @@
 -- What clients of a mounted volume have open may change while it stands over its disk.
-use Rattle.std.proofs.Common.{◌≡◌, ◌⊎◌, inl, inr, ℕ, zero, suc, ◌+◌, ◌<◌, ◌≤◌, Bool, true, false, not, ◌&&◌, ◌||◌, List, [], ◌∷◌, ◌++◌, length, map, set, Option, None, Some, refl, sym, ap, ◌∙◌, arith, cond, if◌then◌else◌}
+use Rattle.std.proofs.Common.{◌≡◌, ◌⊎◌, inl, inr, ℕ, zero, suc, ◌+◌, ◌<◌, ◌≤◌, Bool, true, false, not, ◌&&◌, ◌||◌, List, [], ◌∷◌, ◌++◌, length, map, set, Option, None, Some, refl, sym, ap, ◌∙◌, arith, cond}
 use Rattle.std.proofs.Math.Bool.{or_assoc, or_comm, or-true, or-false}
 use Rattle.std.specs.Prelude.{IsTrue, IsFalse, IfSome, filter, slice_index_or}
 use Rattle.std.specs.List.{AllByRecursion, AllZip, flat_map, list_all, list_any}
