@@ -342,16 +342,13 @@ all_tell M (x ∷ xs) h f Begins ready few (begins, life, rest) =
 
 -- ---- from a format on
 
-ok_same : (x l : Layout) → ◌≡◌ {A = Result Layout LayoutFault} (Ok x) (Ok l) → x ≡ l
-ok_same x l e = cc
-
 planned_by : (kind : Kind) (n t p : ℕ) (l : Layout) → plan kind n t p ≡ Ok l → plan l.kind l.sectors l.third l.pages ≡ Ok l
 planned_by kind n t p l e =
     let a = ok_if (is_between 200 4096 t) _ _ l e in
     let b = ok_if (is_between 16 4096 p) _ _ l a.1 in
     let c = ok_if (nat_le n (2 ^ 24)) _ _ l b.1 in
     let d = ok_if (nat_le (least_size t p) n) _ _ l c.1 in
-    let same : record { sectors = n; third = t; pages = p; kind = kind } ≡ l = ok_same (record { sectors = n; third = t; pages = p; kind = kind }) l d.1 in
+    let same : record { sectors = n; third = t; pages = p; kind = kind } ≡ l = cc d.1 in
     subst (λ (x : Layout). plan x.kind x.sectors x.third x.pages ≡ Ok l) same e
 
 made_stands : (l : Layout) (left : Moment) → plan l.kind l.sectors l.third l.pages ≡ Ok l → HoldsVolume l left → Standing [] 0 left

@@ -1,11 +1,9 @@
 -- Worked examples of what a list says.
-use Rattle.std.proofs.Common.{◌≡◌, ℕ, List, [], ◌∷◌, ◌++◌, None, refl, codes}
+use Rattle.std.proofs.Common.{◌≡◌, [], ◌++◌, None, refl, codes}
 use Rattle.std.specs.Fmt.{digits}
+use Rattle.fsd_texts.specs.Text.{newline}
 use Rattle.fsd_files.specs.Files.{Change, step}
 use Rattle.cfs_program.specs.Drill.{list_text}
-
-abbrev newline : List ℕ
-newline = 10 ∷ []
 
 of_none : list_text [] ≡ codes "listed 0" ++ newline
 unfolding digits
