@@ -64,6 +64,9 @@ fn text_of(alloc: Global, answer: &Reply) -> Result<Vec<u8>, AllocError>
             alloc,
             &[Word("kept"), Part::Key(key), Number(u64::from(*keep))],
         ),
+        Reply::Moved { from, to } => {
+            parts_text(alloc, &[Word("moved"), Part::Key(from), Part::Key(to)])
+        }
         Reply::Listed(entries) => list_text(alloc, entries.as_slice()),
         Reply::Bytes { key, bytes } => bytes_text(alloc, key, bytes.as_slice()),
         Reply::DamagedAt { key, sector } => parts_text(

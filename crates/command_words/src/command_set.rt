@@ -3,7 +3,7 @@ ghost use Rattle.std.specs.Prelude.{◌≡◌, IfOk, codes, fold};
 ghost use Rattle.clap.specs.Matches.{found_of};
 ghost use Rattle.clap.specs.Simple.{app_of, new_app};
 ghost use Rattle.clap.specs.Walk.{rows_of};
-ghost use Rattle.fsd_runs.specs.Words.{cfs, reads_fields, reads_format, reads_generate, reads_keep, reads_put};
+ghost use Rattle.fsd_runs.specs.Words.{cfs, reads_fields, reads_format, reads_generate, reads_keep, reads_move, reads_put};
 ghost use Rattle.command_words.specs.CommandSet.{IsCommand, shape_of, with_row};
 
 use crate::field::{field, keep_of, key_of, layout_of, name_of, number_at, pattern_of, seed_of};
@@ -21,7 +21,7 @@ struct Row<'a> {
 
 // Their order is that of the definition `cfs`, and so it is in any build that is proved: the contract of `command_set`
 // says that the two are one.
-const ROWS: [Row<'static>; 12] = [
+const ROWS: [Row<'static>; 13] = [
     Row {
         name: "format",
         positionals: &["image", "n", "t", "p"],
@@ -50,6 +50,11 @@ const ROWS: [Row<'static>; 12] = [
     Row {
         name: "keep",
         positionals: &["image", "name", "k"],
+        options: &[],
+    },
+    Row {
+        name: "move",
+        positionals: &["image", "key", "name"],
         options: &[],
     },
     Row {
@@ -138,6 +143,7 @@ pub(crate) fn read_fields(name: &str, fields: &ArgMatches<'_>) -> Result<Request
         "list" => Ok(Request::One(Word::List(pattern_of(field(fields, "pat"))?))),
         "delete" => Ok(Request::One(Word::Delete(key_of(field(fields, "key"))?))),
         "keep" => read_keep(fields),
+        "move" => read_move(fields),
         "stat" => Ok(Request::One(Word::Stat)),
         "scrub" => Ok(Request::One(Word::Scrub)),
         "upgrade" => Ok(Request::One(Word::Upgrade)),
@@ -177,6 +183,14 @@ fn read_keep(fields: &ArgMatches<'_>) -> Result<Request, Cause>
     let name = name_of(field(fields, "name"))?;
     let keep = number_at(fields, "k")?;
     Ok(Request::One(Word::Keep { name, keep }))
+}
+
+fn read_move(fields: &ArgMatches<'_>) -> Result<Request, Cause>
+    ensures { result ≡ reads_move (rows_of (found_of fields.now)) }
+{
+    let key = key_of(field(fields, "key"))?;
+    let name = name_of(field(fields, "name"))?;
+    Ok(Request::One(Word::Move { key, name }))
 }
 
 fn read_generate(fields: &ArgMatches<'_>) -> Result<Request, Cause>

@@ -2,20 +2,21 @@
 use Rattle.std.proofs.Common.{◌≡◌, ℕ, Bool, true, false, cond, List, [], ◌∷◌, filter, Option, Some, None, Ordering, refl, sym, ap, subst, ◌∙◌}
 use Rattle.std.specs.Prelude.{not}
 use Rattle.std.specs.List.{list_any}
+use Rattle.std.specs.Ordering.{eq_by_cmp}
 use Rattle.std.specs.declared.cmp.Ordering.TheVariants.{Less, Equal, Greater}
-use Rattle.std.specs.FinMap.{put}
+use Rattle.std.specs.FinMap.{find, put}
 use Rattle.std.specs.FinMap.Entries.{by_order}
 use Rattle.fsd_bytes.specs.declared.key.Key.{Key}
 use Rattle.fsd_bytes.specs.declared.key.Serial.{Serial}
 use Rattle.fsd_bytes.specs.Keys.{key_cmp, same_key}
 use Rattle.run_table.specs.declared.run.Run.{Run}
 use Rattle.fsd_formats.specs.declared.entry.Entry.{Entry}
-use Rattle.fsd_files.specs.Answers.{deleted, entries_with_keep, entry_kept, entry_put, highest_entry, keep_set, new_entry, with_version}
+use Rattle.fsd_files.specs.Answers.{deleted, entries_with_keep, entry_kept, entry_of, entry_put, highest_entry, keep_set, moved_entry, new_entry, with_version, with_version_moved}
 use Rattle.fsd_files.specs.Disk.{Image, Sectors}
-use Rattle.fsd_files.specs.Files.{File, Files, file_kept, gone_keys, highest, kept_at, new_key, new_keep, with_keep, with_new}
+use Rattle.fsd_files.specs.Files.{File, Files, file_kept, gone_by_move, gone_keys, highest, kept_at, moved_keep, moved_to, new_key, new_keep, with_keep, with_moved, with_new}
 use Rattle.fsd_files.specs.Kept.{Kept, KeptIn, Lists}
 use Rattle.fsd_files.specs.Volume.{Volume}
-use Rattle.fsd_files.proofs.ListingLaws.{BothOrNone, highest_both, lists_put}
+use Rattle.fsd_files.proofs.ListingLaws.{AreFound, BothOrNone, found_both, highest_both, lists_put, moved_is_entry, same_key_turned}
 
 module _ (hurt : Sectors) (i : Image) where
   by_place : (o : Ordering) (k : Key) (x : File) (e : Entry) (y : Key × File) (z : Entry) (s : Files) (entries : List Entry) (rest : Files) (more : List Entry)
@@ -77,3 +78,35 @@ module _ (hurt : Sectors) (i : Image) where
       by : (o : Option (Key × File)) → BothOrNone o (Some e) → Kept i (kept_at o keep v.files) (entries_with_keep e.key keep v.entries) hurt
       by None both = absurd both
       by (Some y) both = kept_with_keep y.0 e.key keep v.files v.entries kept
+
+  -- a version and its entry that are found by one key stand at one place
+  kept_found : (key : Key) (x : File) (e : Entry) (s : Files) (entries : List Entry) → Lists s entries → find key_cmp key s ≡ Some x → entry_of key entries ≡ Some e → Kept i s entries hurt → KeptIn i hurt x.bytes e.runs
+  kept_found key x e [] entries lists there found kept = absurd (cc there)
+  kept_found key x e (y ∷ s) [] lists there found kept = absurd lists
+  kept_found key x e (y ∷ s) (z ∷ entries) lists there found kept =
+      by (same_key z.key key) (subst (λ (b : Bool). cond b (Some y.1) (find key_cmp key s) ≡ Some x) same there) found (λ more_there more_found. kept_found key x e s entries lists.1 more_there more_found kept.1)
+    where
+      same : eq_by_cmp key_cmp key y.0 ≡ same_key z.key key
+      same = same_key_turned key y.0 ∙ ap (λ (k : Key). same_key k key) (sym lists.0.key)
+
+      by : (b : Bool) → cond b (Some y.1) (find key_cmp key s) ≡ Some x → cond b (Some z) (entry_of key entries) ≡ Some e
+          → (find key_cmp key s ≡ Some x → entry_of key entries ≡ Some e → KeptIn i hurt x.bytes e.runs) → KeptIn i hurt x.bytes e.runs
+      by true is of rest =
+          let file : y.1 ≡ x = cc is in
+          let entry : z ≡ e = cc of in
+          subst (λ (w : File). KeptIn i hurt w.bytes e.runs) file (subst (λ (w : Entry). KeptIn i hurt y.1.bytes w.runs) entry kept.0)
+      by false is of rest = rest is of
+
+  pub move_kept : (v : Volume) (key : Key) (name : List ℕ) (x : File) (e : Entry) (r : ℕ) → Lists v.files v.entries → find key_cmp key v.files ≡ Some x → entry_of key v.entries ≡ Some e → Kept i v.files v.entries hurt
+      → Kept i (with_version_moved v key name x e r).files (with_version_moved v key name x e r).entries hurt
+  move_kept v key name x e r lists there found kept =
+      let w : File = record { bytes = x.bytes; keep = moved_keep name x.keep v.files } in
+      let out : List Key = key ∷ gone_by_move key name x v.files in
+      let of = both (find key_cmp key v.files) (entry_of key v.entries) there found (found_both key v.files v.entries lists) in
+      subst (λ (o : Option File). Kept i (moved_to key name o v.files) (with_version_moved v key name x e r).entries hurt) (sym there)
+      (kept_passed (λ k. not (list_any (same_key k) out)) (with_moved name x v.files) (entry_put (moved_entry v name e) v.entries)
+      (lists_put (new_key name v.files) w (moved_entry v name e) v.files v.entries (moved_is_entry v key name x e of) lists)
+      (kept_put (new_key name v.files) w (moved_entry v name e) v.files v.entries refl (kept_found key x e v.files v.entries lists there found kept) lists kept))
+    where
+      both : (o : Option File) (p : Option Entry) → o ≡ Some x → p ≡ Some e → AreFound key o p → AreFound key (Some x) (Some e)
+      both o p is of found = subst (λ (a : Option File). AreFound key a (Some e)) is (subst (λ (a : Option Entry). AreFound key o a) of found)

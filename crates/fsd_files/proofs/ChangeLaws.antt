@@ -2,8 +2,7 @@
 use Rattle.std.proofs.Common.{◌≡◌, ◌⊎◌, inl, inr, ℕ, zero, suc, ◌+◌, ◌<◌, ◌≤◌, Bool, true, false, cond, List, [], ◌∷◌, ◌++◌, filter, take, Option, Some, None, Ordering, refl, sym, ap, subst, ◌∙◌, arith}
 use Rattle.std.specs.Prelude.{T, IsTrue, IsFalse, IfSome, nat_le, not, ◌&&◌, ◌||◌, ◌==◌}
 use Rattle.std.specs.FinMap.{is_sorted}
-use Rattle.std.specs.List.{AllByRecursion, flat_map, list_all, list_any}
-use Rattle.std.specs.Ordering.{is_eq, ordering_reverse}
+use Rattle.std.specs.List.{flat_map, list_all, list_any}
 use Rattle.std.specs.declared.cmp.Ordering.TheVariants.{Less, Equal, Greater}
 use Rattle.std.specs.FinMap.Entries.{by_order}
 use Rattle.std.proofs.lemmas.Bool.{and_parts, and_from, or_cases, or_parts, or_from, or_left, or_right, not-true, not_from_false, false_from_ne_true, both_ways, cases_lt, eqb-true, eq-eqb}
@@ -19,16 +18,16 @@ use Rattle.run_table.specs.declared.run.Run.{Run}
 use Rattle.run_table.specs.RunTable.{same_runs, sectors_of}
 use Rattle.run_table.specs.Space.{contains, all_differ}
 use Rattle.fsd_formats.specs.declared.entry.Entry.{Entry}
-use Rattle.fsd_files.specs.Answers.{deleted, entry_kept, entry_put, entries_with_keep, gone_sectors, keep_set, new_entry, with_version}
-use Rattle.fsd_files.specs.Files.{gone_keys, new_key}
+use Rattle.fsd_files.specs.Answers.{deleted, entry_kept, entry_of, entry_put, entries_with_keep, gone_sectors, keep_set, moved_entry, new_entry, with_version, with_version_moved}
+use Rattle.fsd_files.specs.Files.{File, gone_by_move, gone_keys, new_key}
 use Rattle.fsd_files.specs.Kept.{Lists}
 use Rattle.fsd_files.specs.Space.{Apart}
 use Rattle.fsd_files.specs.Volume.{Volume, plans_of, is_in, in_version, waits, is_free, forced, forced_if, drawn, place_for, entries_at, entries_without}
 use Rattle.fsd_files.specs.Waiting.{Changes, IsSpaced, are_same_or_apart, is_kept_alone, is_leader, is_let_go}
 use Rattle.fsd_files.proofs.CountLaws.{one_where, occurs, occurs-append, used, used-cons, contains_occurs, occurs_contains, differ_occurs, occurs_differ, picked_once}
-use Rattle.fsd_files.proofs.HistoryLaws.{keys_total}
-use Rattle.fsd_files.proofs.FreshLaws.{new_key_is_new}
+use Rattle.fsd_files.proofs.FreshLaws.{IsAbsent, new_key_is_new}
 use Rattle.fsd_files.proofs.ListingLaws.{entries_at_none, entries_without_none}
+use Rattle.fsd_files.proofs.MoveLaws.{moved_used}
 use Rattle.fsd_files.proofs.WaitLaws.{forced_is_spaced}
 
 -- ---- how often a sector stands in plans
@@ -89,18 +88,6 @@ parts_use p s (z ∷ entries) = by (p z) (parts_use p s entries)
         → used s (plans_of (cond b (z ∷ filter p entries) (filter p entries))) + used s (plans_of (cond (not b) (z ∷ filter (λ e. not (p e)) entries) (filter (λ e. not (p e)) entries))) ≡ used s (plans_of (z ∷ entries))
     by true rest = omega (arith, used-cons s z.runs (plans_of (filter p entries)), used-cons s z.runs (plans_of entries), rest)
     by false rest = omega (arith, used-cons s z.runs (plans_of (filter (λ e. not (p e)) entries)), used-cons s z.runs (plans_of entries), rest)
-
--- no entry has the key
-abbrev pub IsAbsent : Key → List Entry → Type 0
-IsAbsent key entries = AllByRecursion (λ z. key_cmp key z.key ≡ Equal → ⊥) entries
-
-turned_eq : (o : Ordering) → is_eq (ordering_reverse o) ≡ is_eq o
-turned_eq Less = refl
-turned_eq Equal = refl
-turned_eq Greater = refl
-
-pub same_key_turned : (a b : Key) → is_eq (key_cmp a b) ≡ same_key b a
-same_key_turned a b = ap is_eq (keys_total.antisymm a b) ∙ turned_eq (key_cmp b a)
 
 -- with one more entry
 record Puts (p : Entry → Bool) (s : ℕ) (e : Entry) (old new : List Entry) : Type 0 where
@@ -523,6 +510,42 @@ keep_moves v name keep r e = record {
 
 pub keep_changes : (v : Volume) (name : List ℕ) (keep r : ℕ) (e : Entry) → IsSpaced v → Changes v (keep_set v name keep r (Some e)).1
 keep_changes v name keep r e spaced = changes_then v (keep_set v name keep r (Some e)).1 [] [] (keep_moves v name keep r e) (none_free v) spaced
+
+-- what all have, the one with a key has
+found_has : (q : Entry → Bool) (key : Key) (e : Entry) (entries : List Entry) → list_all q entries ≡ true → entry_of key entries ≡ Some e → q e ≡ true
+found_has q key e [] all found = absurd (cc found)
+found_has q key e (z ∷ entries) all found = by (same_key z.key key) found (found_has q key e entries parts.1)
+  where
+    parts : (q z ≡ true) × (list_all q entries ≡ true)
+    parts = and_parts (q z) (list_all q entries) all
+
+    by : (b : Bool) → cond b (Some z) (entry_of key entries) ≡ Some e → (entry_of key entries ≡ Some e → q e ≡ true) → q e ≡ true
+    by true is rest = let same : z ≡ e = cc is in ap q (sym same) ∙ parts.0
+    by false is rest = rest is
+
+-- the moved version has the runs that it had
+move_moves : (v : Volume) (key : Key) (name : List ℕ) (x : File) (e : Entry) (r : ℕ) → Lists v.files v.entries → T (is_sorted key_cmp v.files) → entry_of key v.entries ≡ Some e
+    → Moves v (with_version_moved v key name x e r) (gone_by_move key name x v.files) []
+move_moves v key name x e r lists sorted found =
+    let out = key ∷ gone_by_move key name x v.files in
+    let moved = moved_entry v name e in
+    record {
+      layout = refl;
+      unforced = refl;
+      epoch = refl;
+      held = refl;
+      drafts = refl;
+      removed = refl;
+      most = λ s. let same = moved_used v key name x e r sorted lists found s in omega (arith, same);
+      least = λ s. let same = moved_used v key name x e r sorted lists found s in omega (arith, same);
+      each = λ q here all.
+          each_kept (λ z. not (list_any (same_key z.key) out)) (λ z. q z.runs) (entry_put moved v.entries) (each_put (λ z. q z.runs) moved v.entries (found_has (λ z. q z.runs) key e v.entries all found) all);
+    }
+
+pub move_changes : (v : Volume) (key : Key) (name : List ℕ) (x : File) (e : Entry) (r : ℕ) → IsSpaced v → Lists v.files v.entries → T (is_sorted key_cmp v.files) → entry_of key v.entries ≡ Some e
+    → Changes v (with_version_moved v key name x e r)
+move_changes v key name x e r spaced lists sorted found =
+    changes_then v (with_version_moved v key name x e r) (gone_by_move key name x v.files) [] (move_moves v key name x e r lists sorted found) (none_free v) spaced
 
 -- a put that has found a place, up to its change
 pub put_changes : (chosen : Bool) (v : Volume) (name bytes : List ℕ) (given : Option ℕ) (need : ℕ) (runs : List Run) (serial : Serial) (r : ℕ) → IsSpaced v → Lists v.files v.entries → T (is_sorted key_cmp v.files)

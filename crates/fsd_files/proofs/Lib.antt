@@ -6,6 +6,8 @@ pub mod HistoryLaws
 pub mod KeptLaws
 pub mod LeaderLaws
 pub mod ListingLaws
+pub mod MoveExamples
+pub mod MoveLaws
 pub mod ScrubLaws
 pub mod WaitExamples
 pub mod WaitLaws

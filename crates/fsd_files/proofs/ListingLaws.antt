@@ -1,12 +1,13 @@
 -- The entries stay those of the files, in order, whatever is answered.
 use Rattle.std.proofs.Common.{◌≡◌, ℕ, suc, Bool, true, false, cond, List, [], ◌∷◌, length, filter, Option, Some, None, refl, sym, ap, subst, ◌∙◌}
 use Rattle.std.specs.Prelude.{not, nat_lt, nat_le, is_none, ◌&&◌, ◌==◌}
+use Rattle.std.specs.Cmp.{Equal-is}
 use Rattle.std.specs.List.{list_any, last_or}
-use Rattle.std.specs.Ordering.{nat_cmp, ordering_then}
+use Rattle.std.specs.Ordering.{eq_by_cmp, is_eq, nat_cmp, ordering_reverse, ordering_then}
 use Rattle.std.specs.declared.cmp.Ordering.{Ordering}
 use Rattle.std.specs.declared.cmp.Ordering.TheVariants.{Less, Equal, Greater}
 use Rattle.std.specs.Cmp.Lexicographic.{slice_cmp}
-use Rattle.std.specs.FinMap.{put, slice_cmp-IsAntisymmetric, nat_cmp-IsAntisymmetric}
+use Rattle.std.specs.FinMap.{find, put, slice_cmp-IsAntisymmetric, nat_cmp-IsAntisymmetric}
 use Rattle.std.specs.FinMap.Entries.{by_order}
 use Rattle.fsd_bytes.specs.Bytes.{same_bytes}
 use Rattle.fsd_bytes.specs.declared.key.Key.{Key}
@@ -17,10 +18,11 @@ use Rattle.fsd_bytes.specs.Keys.{key_cmp, same_key}
 use Rattle.run_table.specs.declared.run.Run.{Run}
 use Rattle.fsd_formats.specs.declared.entry.Entry.{Entry}
 use Rattle.fsd_formats.specs.NamePage.{sectors_for, max_keep}
-use Rattle.fsd_files.specs.Files.{File, Files, highest, without_keys, new_key, new_keep, with_new, gone_keys, kept_at, file_kept, with_keep}
+use Rattle.fsd_files.specs.Files.{File, Files, highest, without_keys, new_key, new_keep, with_new, with_moved, gone_keys, gone_by_move, kept_at, file_kept, moved_keep, moved_to, with_keep}
 use Rattle.fsd_files.specs.Kept.{IsEntryOf, Lists}
 use Rattle.fsd_files.specs.Volume.{Volume, forced, forced_for_place, forced_if, drawn, place_for, entries_at, entries_without}
-use Rattle.fsd_files.specs.Answers.{Met, refused, entry_put, entry_of, entry_kept, entries_with_keep, highest_entry, with_version, enter_fault, entered_unless, put_at, put_unless, keep_given, size_fault, deleted, keep_set, put_outcome, delete_outcome, keep_outcome}
+use Rattle.fsd_files.specs.Answers.{Met, refused, entry_put, entry_of, entry_kept, entries_with_keep, highest_entry, with_version, enter_fault, entered_unless, put_at, put_unless, keep_given, size_fault, deleted, keep_set, moved, moved_entry, moved_unless, with_version_moved, put_outcome, delete_outcome, keep_outcome, move_outcome}
+use Rattle.fsd_files.proofs.HistoryLaws.{keys_total}
 
 -- ---- keys that compare alike are one
 
@@ -34,6 +36,17 @@ same_place Greater a b e f = absurd cc
 
 pub alike_is : (a b : Key) → key_cmp a b ≡ Equal → a ≡ b
 alike_is a b e = same_place (slice_cmp nat_cmp a.name b.name) a b refl e
+
+pub same_key_is : (a b : Key) → same_key a b ≡ true → a ≡ b
+same_key_is a b same = alike_is a b ((Equal-is (key_cmp a b)).0 same)
+
+turned_eq : (o : Ordering) → is_eq (ordering_reverse o) ≡ is_eq o
+turned_eq Less = refl
+turned_eq Equal = refl
+turned_eq Greater = refl
+
+pub same_key_turned : (a b : Key) → is_eq (key_cmp a b) ≡ same_key b a
+same_key_turned a b = ap is_eq (keys_total.antisymm a b) ∙ turned_eq (key_cmp b a)
 
 -- ---- putting one in and taking some out
 
@@ -100,6 +113,27 @@ lists_last o p (y ∷ s) (z ∷ entries) both lists = lists_last (Some y) (Some 
 
 pub highest_both : (name : List ℕ) (s : Files) (entries : List Entry) → Lists s entries → BothOrNone (highest name s) (highest_entry name entries)
 highest_both name s entries lists = lists_last None None _ _ tt (lists_kept (λ k. same_bytes name k.name) s entries lists)
+
+-- ---- the version with a key
+
+-- both are there, and one is the other's entry, or neither is
+abbrev pub AreFound : Key → Option File → Option Entry → Type 0
+AreFound key None None = Unit {0}
+AreFound key (Some x) (Some e) = IsEntryOf (key, x) e
+AreFound key x e = ⊥
+
+pub found_both : (key : Key) (s : Files) (entries : List Entry) → Lists s entries → AreFound key (find key_cmp key s) (entry_of key entries)
+found_both key [] [] lists = tt
+found_both key [] (z ∷ entries) lists = absurd lists
+found_both key (y ∷ s) [] lists = absurd lists
+found_both key (y ∷ s) (z ∷ entries) lists =
+    let same : eq_by_cmp key_cmp key y.0 ≡ same_key z.key key = same_key_turned key y.0 ∙ ap (λ (k : Key). same_key k key) (sym lists.0.key) in
+    subst (λ (b : Bool). AreFound key (cond b (Some y.1) (find key_cmp key s)) (cond (same_key z.key key) (Some z) (entry_of key entries))) (sym same)
+    (by (same_key z.key key) refl (found_both key s entries lists.1))
+  where
+    by : (b : Bool) → same_key z.key key ≡ b → AreFound key (find key_cmp key s) (entry_of key entries) → AreFound key (cond b (Some y.1) (find key_cmp key s)) (cond b (Some z) (entry_of key entries))
+    by true is rest = record { key = same_key_is z.key key is; keep = lists.0.keep; length = lists.0.length }
+    by false is rest = rest
 
 -- ---- the steps
 
@@ -170,3 +204,30 @@ keep_tried met v at name keep false lists other = keep_set_listed at name keep m
 
 pub keeps_listed : (met : Met) (v : Volume) (name : List ℕ) (keep : ℕ) → IsListed v → IsListed (keep_outcome met v name keep).1
 keeps_listed met v name keep lists = keep_tried met v (forced_if met.forces v) name keep (nat_lt max_keep keep) lists (forced_listed (met.forces && nat_le 2 v.unforced) v lists)
+
+-- the entry of a version that has moved is that of its file
+pub moved_is_entry : (v : Volume) (key : Key) (name : List ℕ) (x : File) (e : Entry) → IsEntryOf (key, x) e
+    → IsEntryOf (new_key name v.files, record { bytes = x.bytes; keep = moved_keep name x.keep v.files }) (moved_entry v name e)
+moved_is_entry v key name x e of = record { key = refl; keep = ap (λ (own : ℕ). moved_keep name own v.files) of.keep; length = of.length }
+
+pub version_moved_listed : (v : Volume) (key : Key) (name : List ℕ) (x : File) (e : Entry) (r : ℕ) → find key_cmp key v.files ≡ Some x → IsEntryOf (key, x) e → IsListed v → IsListed (with_version_moved v key name x e r)
+version_moved_listed v key name x e r there of lists =
+    subst (λ (o : Option File). Lists (moved_to key name o v.files) (with_version_moved v key name x e r).entries) (sym there)
+    (lists_without (key ∷ gone_by_move key name x v.files) (with_moved name x v.files) _
+    (lists_put (new_key name v.files) (record { bytes = x.bytes; keep = moved_keep name x.keep v.files }) (moved_entry v name e) v.files v.entries (moved_is_entry v key name x e of) lists))
+
+moved_listed : (v : Volume) (key : Key) (name : List ℕ) (r : ℕ) (x : Option File) (e : Option Entry) → find key_cmp key v.files ≡ x → AreFound key x e → IsListed v → IsListed (moved v key name r x e).1
+moved_listed v key name r None None there both lists = lists
+moved_listed v key name r None (Some e) there both lists = lists
+moved_listed v key name r (Some x) None there both lists = lists
+moved_listed v key name r (Some x) (Some e) there both lists = by (enter_fault v name)
+  where
+    by : (o : Option Refusal) → IsListed (moved_unless o v key name x e r).1
+    by (Some why) = lists
+    by None = version_moved_listed v key name x e r there both lists
+
+pub moves_listed : (met : Met) (v : Volume) (key : Key) (name : List ℕ) → IsListed v → IsListed (move_outcome met v key name).1
+moves_listed met v key name lists =
+    let at = forced_if met.forces v in
+    let listed = forced_listed (met.forces && nat_le 2 v.unforced) v lists in
+    moved_listed at key name met.reached (find key_cmp key at.files) (entry_of key at.entries) refl (found_both key at.files at.entries listed) listed

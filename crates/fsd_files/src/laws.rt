@@ -1,17 +1,17 @@
 //! Laws over the definitions: the functions do nothing, the contract of each is a law.
-ghost use Rattle.std.specs.Prelude.{◌≡◌, Bool, List, [], ◌∷◌, ◌++◌, Option, Some, T, IsFalse, ℕ};
-ghost use Rattle.std.specs.FinMap.{is_sorted};
+ghost use Rattle.std.specs.Prelude.{◌≡◌, ◌≤◌, Bool, List, [], ◌∷◌, ◌++◌, Option, None, Some, T, IsFalse, length, ℕ};
+ghost use Rattle.std.specs.FinMap.{find, is_sorted};
 ghost use Rattle.fsd_bytes.specs.Keys.{key_cmp};
 ghost use Rattle.fsd_formats.specs.declared.entry.Entry.{Entry};
 ghost use Rattle.fsd_files.specs.Disk.{Image, Sectors, Within};
 ghost use Rattle.sector_disk.specs.Image.{IsWorn};
-ghost use Rattle.fsd_files.specs.Files.{Files, Change, step, after};
+ghost use Rattle.fsd_files.specs.Files.{File, Files, Change, step, after, gone_by_move, moved_keep, new_key};
 ghost use Rattle.fsd_files.specs.Kept.{Kept, KeptIn, Lists};
 ghost use Rattle.fsd_bytes.specs.declared.key.Key.{Key};
 ghost use Rattle.fsd_bytes.specs.declared.key.Serial.{Serial};
 ghost use Rattle.run_table.specs.declared.run.Run.{Run};
-ghost use Rattle.fsd_files.specs.Answers.{Met, put_outcome, delete_outcome, keep_outcome, deleted, highest_entry, keep_set, with_version};
-ghost use Rattle.fsd_files.specs.Volume.{Volume, drawn, forced, forced_if, place_for};
+ghost use Rattle.fsd_files.specs.Answers.{Met, put_outcome, delete_outcome, keep_outcome, move_outcome, deleted, entry_of, highest_entry, keep_set, with_version, with_version_moved};
+ghost use Rattle.fsd_files.specs.Volume.{Volume, drawn, entries_without, forced, forced_if, place_for};
 ghost use Rattle.fsd_files.specs.Waiting.{Changes, IsSpaced};
 
 /// One change more is one step more, and the files always stand in the order of their keys.
@@ -38,6 +38,19 @@ pub fn entries_list_the_files()
         Lists (delete_outcome met v key).1.files (delete_outcome met v key).1.entries }
     ensures keeps { (met : Met) (v : Volume) (name : List ℕ) (keep : ℕ) → Lists v.files v.entries →
         Lists (keep_outcome met v name keep).1.files (keep_outcome met v name keep).1.entries }
+    ensures moves { (met : Met) (v : Volume) (key : Key) (name : List ℕ) → Lists v.files v.entries →
+        Lists (move_outcome met v key name).1.files (move_outcome met v key name).1.entries }
+{}
+
+/// A version that moves has its bytes under its new key and is gone under its old one. One other version goes at most, and
+/// there are as many as there would be if that one alone had gone.
+pub fn a_move_keeps_the_version()
+    ensures there { (key : Key) (name : List ℕ) (x : File) (s : Files) → T (is_sorted key_cmp s) → find key_cmp key s ≡ Some x →
+        find key_cmp (new_key name s) (step s (Change.Move key name)) ≡ Some (record { bytes = x.bytes; keep = moved_keep name x.keep s }) }
+    ensures away { (key : Key) (name : List ℕ) (x : File) (s : Files) → T (is_sorted key_cmp s) → find key_cmp key s ≡ Some x → find key_cmp key (step s (Change.Move key name)) ≡ None }
+    ensures few { (key : Key) (name : List ℕ) (x : File) (s : Files) → length (gone_by_move key name x s) ≤ 1 }
+    ensures count { (v : Volume) (key : Key) (name : List ℕ) (x : File) (e : Entry) (r : ℕ) → T (is_sorted key_cmp v.files) → Lists v.files v.entries → entry_of key v.entries ≡ Some e →
+        length (with_version_moved v key name x e r).entries ≡ length (entries_without (gone_by_move key name x v.files) v.entries) }
 {}
 
 /// A change keeps versions, drafts and what waits apart, and lets nothing go that the volume had.
@@ -48,6 +61,8 @@ pub fn changes_let_nothing_go()
         Changes (forced_if chosen (drawn v)) (with_version (forced_if chosen (drawn v)) name bytes given runs serial r) }
     ensures deletes { (v : Volume) (key : Key) (r : ℕ) (e : Entry) → IsSpaced v → Changes v (deleted v key r (Some e)).1 }
     ensures keeps { (v : Volume) (name : List ℕ) (keep r : ℕ) (e : Entry) → IsSpaced v → Changes v (keep_set v name keep r (Some e)).1 }
+    ensures moves { (v : Volume) (key : Key) (name : List ℕ) (x : File) (e : Entry) (r : ℕ) →
+        IsSpaced v → Lists v.files v.entries → T (is_sorted key_cmp v.files) → entry_of key v.entries ≡ Some e → Changes v (with_version_moved v key name x e r) }
     ensures forces { (v : Volume) → IsSpaced v → IsSpaced (forced v) }
 {}
 
@@ -60,4 +75,7 @@ pub fn changes_keep_what_stays()
         Kept i (deleted v key r (Some e)).1.files (deleted v key r (Some e)).1.entries hurt }
     ensures keeps { (hurt : Sectors) (i : Image) (v : Volume) (name : List ℕ) (keep r : ℕ) (e : Entry) → Lists v.files v.entries → highest_entry name v.entries ≡ Some e →
         Kept i v.files v.entries hurt → Kept i (keep_set v name keep r (Some e)).1.files (keep_set v name keep r (Some e)).1.entries hurt }
+    ensures moves { (hurt : Sectors) (i : Image) (v : Volume) (key : Key) (name : List ℕ) (x : File) (e : Entry) (r : ℕ) →
+        Lists v.files v.entries → find key_cmp key v.files ≡ Some x → entry_of key v.entries ≡ Some e → Kept i v.files v.entries hurt →
+        Kept i (with_version_moved v key name x e r).files (with_version_moved v key name x e r).entries hurt }
 {}

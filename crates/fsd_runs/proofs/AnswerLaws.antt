@@ -1,9 +1,7 @@
 -- What the answers of a volume do to its files, to the pages of its table, to what it holds and to what is forced.
-use Rattle.std.proofs.Common.{◌≡◌, ◌⊎◌, inl, inr, ℕ, suc, ◌+◌, ◌≤◌, Bool, true, false, cond, List, [], ◌∷◌, length, Option, Some, None, refl, sym, ap, ◌∙◌, arith}
-use Rattle.std.specs.Prelude.{IfSome, is_none, not, nat_le, nat_lt, ◌&&◌, ◌||◌, ◌==◌, fold}
-use Rattle.std.specs.List.{list_any}
+use Rattle.std.proofs.Common.{◌≡◌, ◌⊎◌, inl, inr, ℕ, suc, ◌≤◌, Bool, true, false, cond, List, [], ◌∷◌, length, Option, Some, None, refl, ap, ◌∙◌, arith}
+use Rattle.std.specs.Prelude.{IfSome, is_none, not, nat_le, nat_lt, ◌&&◌, ◌==◌}
 use Rattle.std.specs.FinMap.{find}
-use Rattle.std.proofs.lemmas.List.{length-append}
 use Rattle.fsd_bytes.specs.declared.key.Key.{Key}
 use Rattle.fsd_bytes.specs.declared.key.Serial.{Serial}
 use Rattle.fsd_bytes.specs.declared.refusal.Refusal.{Refusal}
@@ -17,18 +15,16 @@ use Rattle.fsd_formats.specs.NamePage.{sectors_for, max_keep}
 use Rattle.sector_disk.specs.declared.sector.Sector.{Sector}
 use Rattle.sector_disk.specs.declared.sector.Sector.TheVariants.{Whole, Damaged}
 use Rattle.sector_disk.specs.Image.{sector_at}
-use Rattle.fsd_files.proofs.HistoryLaws.{fold_both}
-use Rattle.fsd_files.specs.Answers.{Met, Outcome, refused, enter_fault, entered_unless, entered_version, put_at, put_unless, size_fault, keep_given, deleted, keep_set, entry_of, highest_entry, upgraded, got, FindsDamage, FindsDamageIn}
+use Rattle.fsd_files.specs.Answers.{Met, Outcome, refused, enter_fault, entered_unless, entered_version, put_at, put_unless, size_fault, keep_given, deleted, keep_set, moved, moved_unless, entry_of, highest_entry, upgraded, got, FindsDamage, FindsDamageIn}
 use Rattle.fsd_files.specs.Disk.{Image}
 use Rattle.fsd_files.specs.Files.{Change, File, Files, step}
 use Rattle.fsd_files.specs.Kept.{range_sectors}
 use Rattle.fsd_files.specs.Scrub.{Picks, all_data}
-use Rattle.fsd_files.specs.Volume.{Volume, HasReach, forced, forced_if, forced_for_place, drawn, place_for}
+use Rattle.fsd_files.specs.Volume.{Volume, forced, forced_if, forced_for_place, drawn, place_for}
 use Rattle.fsd_texts.specs.declared.command.Command.{Command}
 use Rattle.fsd_texts.specs.declared.command.Command.TheVariants as Word
 use Rattle.fsd_runs.specs.Commands.{answer, changes_of, MayFind}
-use Rattle.fsd_runs.specs.Errands.{Turn, Errand, answered_so, is_forced}
-use Rattle.fsd_runs.specs.Runs.{session_behind, turn_of, changes_in, forced_in, turns_begun}
+use Rattle.fsd_runs.specs.Errands.{is_forced}
 
 -- ---- one answer: nothing is changed, or the change is made
 
@@ -110,6 +106,16 @@ keep_tried : (met : Met) (v at : Volume) (name : List ℕ) (keep : ℕ) (b : Boo
 keep_tried met v at name keep true same = inl (record { none = refl; same = same_itself v })
 keep_tried met v at name keep false same = does_from met v at (Word.Keep name keep) (keep_set at name keep met.reached (highest_entry name at.entries)) same (keep_does met at name keep (highest_entry name at.entries))
 
+move_tried : (met : Met) (v : Volume) (key : Key) (name : List ℕ) (x : File) (e : Entry) (o : Option Refusal) → Does met v (Word.Move key name) (moved_unless o v key name x e met.reached)
+move_tried met v key name x e (Some why) = inl (record { none = refl; same = same_itself v })
+move_tried met v key name x e None = inr (record { change = Change.Move key name; is = refl; files = refl; reached = refl; held = refl; unforced = omega arith })
+
+move_does : (met : Met) (v : Volume) (key : Key) (name : List ℕ) (x : Option File) (e : Option Entry) → Does met v (Word.Move key name) (moved v key name met.reached x e)
+move_does met v key name None None = inl (record { none = refl; same = same_itself v })
+move_does met v key name None (Some e) = inl (record { none = refl; same = same_itself v })
+move_does met v key name (Some x) None = inl (record { none = refl; same = same_itself v })
+move_does met v key name (Some x) (Some e) = move_tried met v key name x e (enter_fault v name)
+
 still : (met : Met) (v : Volume) (command : Command) (out : Outcome) → changes_of command out.0 ≡ [] → IsSame v out.1 → Does met v command out
 still met v command out none same = inl (record { none = none; same = same })
 
@@ -123,6 +129,9 @@ does met v (Word.Delete key) =
     let at = forced_if met.forces v in
     does_from met v at (Word.Delete key) (answer met v (Word.Delete key)) (same_forced (met.forces && nat_le 2 v.unforced) v) (delete_does met at key (entry_of key at.entries))
 does met v (Word.Keep name keep) = keep_tried met v (forced_if met.forces v) name keep (nat_lt max_keep keep) (same_forced (met.forces && nat_le 2 v.unforced) v)
+does met v (Word.Move key name) =
+    let at = forced_if met.forces v in
+    does_from met v at (Word.Move key name) (answer met v (Word.Move key name)) (same_forced (met.forces && nat_le 2 v.unforced) v) (move_does met at key name (find key_cmp key at.files) (entry_of key at.entries))
 does met v Word.Force = still met v Word.Force (answer met v Word.Force) refl (same_forced true v)
 does met v Word.Tick = still met v Word.Tick (answer met v Word.Tick) refl (same_forced true v)
 does met v Word.Scrub = still met v Word.Scrub (answer met v Word.Scrub) refl (same_forced true v)
@@ -155,6 +164,17 @@ forces_all met v (Word.Keep name keep) e = absurd (by (nat_lt max_keep keep) (fo
     by true w o e = cc
     by false w None e = cc
     by false w (Some x) e = cc
+forces_all met v (Word.Move key name) e = absurd (by (forced_if met.forces v) (find key_cmp key (forced_if met.forces v).files) (entry_of key (forced_if met.forces v).entries) e)
+  where
+    tried : (w : Volume) (x : File) (z : Entry) (o : Option Refusal) → is_forced (moved_unless o w key name x z met.reached).0 ≡ true → ⊥
+    tried w x z None e = cc
+    tried w x z (Some why) e = cc
+
+    by : (w : Volume) (x : Option File) (z : Option Entry) → is_forced (moved w key name met.reached x z).0 ≡ true → ⊥
+    by w None None e = cc
+    by w None (Some z) e = cc
+    by w (Some x) None e = cc
+    by w (Some x) (Some z) e = tried w x z (enter_fault w name) e
 forces_all met v (Word.Put name bytes given) e = absurd (by (size_fault (keep_given given) (length bytes)) e)
   where
     at_end : (w : Volume) (runs : List Run) (serial : Serial) (o : Option Refusal) → is_forced (entered_unless o w name bytes given runs serial met.reached).0 ≡ true → ⊥

@@ -5,6 +5,7 @@ use Rattle.std.specs.List.{AllByRecursion}
 use Rattle.fsd_texts.specs.declared.asking.Asking.{Asking}
 use Rattle.fsd_texts.specs.declared.asking.Asking.TheVariants.{OfClient, Piece, Plainly, Put}
 use Rattle.fsd_bytes.specs.Bytes.{same_bytes}
+use Rattle.fsd_bytes.specs.declared.key.Key.{Key}
 use Rattle.fsd_bytes.specs.Keys.{key_of}
 use Rattle.fsd_texts.specs.declared.bad_line.Cause.{Cause}
 use Rattle.fsd_texts.specs.declared.bad_line.Cause.TheVariants.{NoNewlineAfterBytes, ShortBytes, UnknownWord}
@@ -16,7 +17,7 @@ use Rattle.fsd_texts.specs.declared.end.End.TheVariants.{TooLong}
 use Rattle.fsd_texts.specs.declared.script_command.ScriptCommand.{ScriptCommand}
 use Rattle.fsd_texts.specs.declared.script_command.ScriptCommand.TheVariants as Asked
 use Rattle.fsd_texts.specs.Generator.{amount_of, command_of_draw, command_of_kind, draw_of, drawn_kind, made_bytes, made_from, made_name, name_number, next_state}
-use Rattle.fsd_texts.specs.Script.{CommandRead, ◌>>=◌, Script, asked_by, asks, asks_alone, asks_begin, asks_client, asks_keep, asks_lone, asks_piece, asks_put, call_with_field, call_with_none, command_at, commands_from, key_in, line_at, lone_in, lone_words, max_line, name_in, needs_more, number_in, pattern_in, script_from, then_more, whole_command, taking_bytes, with_field, with_no_field, words_of}
+use Rattle.fsd_texts.specs.Script.{CommandRead, ◌>>=◌, Script, asked_by, asks, asks_alone, asks_begin, asks_client, asks_keep, asks_lone, asks_move, asks_piece, asks_put, call_with_field, call_with_none, command_at, commands_from, key_in, line_at, lone_in, lone_words, max_line, name_in, needs_more, number_in, pattern_in, script_from, then_more, whole_command, taking_bytes, with_field, with_no_field, words_of}
 
 -- another command than a scrub and an upgrade
 abbrev pub IsOther : Command → Type 0
@@ -84,6 +85,13 @@ keep_for n k = Ok (Plainly (Word.Keep n k))
 keep_asks : (fields : List (List ℕ)) → IfOk (asks_keep fields) AsksOther
 keep_asks (name ∷ keep ∷ []) = then_read AsksOther (λ n. number_in keep >>= λ k. keep_for n k) (λ n. then_read AsksOther (λ k. keep_for n k) (λ k. tt) (number_in keep)) (name_in name)
 keep_asks other = tt
+
+abbrev move_for : Key → List ℕ → Result Asking Cause
+move_for k n = Ok (Plainly (Word.Move k n))
+
+move_asks : (fields : List (List ℕ)) → IfOk (asks_move fields) AsksOther
+move_asks (key ∷ name ∷ []) = then_read AsksOther (λ k. name_in name >>= λ n. move_for k n) (λ k. then_read AsksOther (λ n. move_for k n) (λ n. tt) (name_in name)) (key_in key)
+move_asks other = tt
 
 no_field : (command : Command) → IsOther command → (fields : List (List ℕ)) → IfOk (with_no_field command fields) AsksOther
 no_field command other [] = other
@@ -158,9 +166,9 @@ alone_asks word fields = lone_asks (lone_in lone_words word) (found_other lone_w
 word_asks : (word : List ℕ) (fields : List (List ℕ)) → IfOk (asks word fields) AsksOther
 word_asks word fields =
     each_first ReadsOther
-    (is_word word (codes "put") (asks_put fields) ∷ is_word word (codes "delete") (with_field key_in Word.Delete fields) ∷ is_word word (codes "keep") (asks_keep fields) ∷ is_word word (codes "list") (with_field pattern_in Word.List fields) ∷ is_word word (codes "get") (with_field key_in Word.Get fields) ∷ [])
+    (is_word word (codes "put") (asks_put fields) ∷ is_word word (codes "delete") (with_field key_in Word.Delete fields) ∷ is_word word (codes "keep") (asks_keep fields) ∷ is_word word (codes "move") (asks_move fields) ∷ is_word word (codes "list") (with_field pattern_in Word.List fields) ∷ is_word word (codes "get") (with_field key_in Word.Get fields) ∷ [])
     (asks_alone word fields)
-    (put_asks fields, (one_field key_in Word.Delete (λ key. tt) fields, (keep_asks fields, (one_field pattern_in Word.List (λ pattern. tt) fields, (one_field key_in Word.Get (λ key. tt) fields, tt))))) (alone_asks word fields)
+    (put_asks fields, (one_field key_in Word.Delete (λ key. tt) fields, (keep_asks fields, (move_asks fields, (one_field pattern_in Word.List (λ pattern. tt) fields, (one_field key_in Word.Get (λ key. tt) fields, tt)))))) (alone_asks word fields)
 
 line_asks : (words : List (List ℕ)) → IfOk (asked_by words) AsksOther
 line_asks [] = tt

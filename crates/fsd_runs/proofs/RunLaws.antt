@@ -1,13 +1,12 @@
 -- What the answers of a run do to the files and to what is forced.
-use Rattle.std.proofs.Common.{◌≡◌, ℕ, suc, ◌+◌, ◌≤◌, Bool, true, false, cond, List, [], ◌∷◌, length, map, refl, sym, ap, ◌∙◌, arith}
+use Rattle.std.proofs.Common.{◌≡◌, ℕ, ◌+◌, ◌≤◌, Bool, true, false, cond, List, [], ◌∷◌, length, map, refl, sym, ap, ◌∙◌, arith}
 use Rattle.std.specs.Prelude.{◌||◌, fold}
 use Rattle.std.specs.List.{list_any}
 use Rattle.std.proofs.lemmas.List.{length-append}
 use Rattle.fsd_files.proofs.HistoryLaws.{fold_both}
 use Rattle.fsd_files.specs.Desk.{Session}
-use Rattle.fsd_files.specs.Files.{Change, Files, step}
+use Rattle.fsd_files.specs.Files.{Files, step}
 use Rattle.fsd_files.specs.declared.reply.Reply.{Reply}
-use Rattle.fsd_files.specs.Volume.{Volume}
 use Rattle.fsd_texts.specs.declared.command.Command.{Command}
 use Rattle.fsd_texts.specs.declared.script_command.ScriptCommand.{ScriptCommand}
 use Rattle.fsd_texts.specs.declared.script_command.ScriptCommand.TheVariants.{Plain}

@@ -10,15 +10,15 @@ use Rattle.fsd_bytes.specs.Keys.{key_cmp}
 use Rattle.run_table.specs.declared.run.Run.{Run}
 use Rattle.fsd_formats.specs.declared.entry.Entry.{Entry}
 use Rattle.fsd_formats.specs.NamePage.{max_length, sectors_for}
-use Rattle.fsd_files.specs.Answers.{Met, Outcome, enter_fault, entry_of}
+use Rattle.fsd_files.specs.Answers.{Met, enter_fault, entry_of}
 use Rattle.fsd_files.specs.Desk.{Session, SessionOutcome, Open, Nothing, Writes, Reads, begin_by, begun_with, close_by, closed_as, done_by, drop_by, is_client, next_by, next_count, open_by, opened_by, opened_with, piece_by, unanswered, with_client}
 use Rattle.fsd_files.specs.Disk.{Image}
 use Rattle.fsd_files.specs.Files.{Change, File, Files, step}
 use Rattle.fsd_files.specs.Kept.{range_sectors}
-use Rattle.fsd_files.specs.Pieces.{enter_outcome, enter_unless, reserve_at, reserve_outcome}
+use Rattle.fsd_files.specs.Pieces.{enter_unless, reserve_at, reserve_outcome}
 use Rattle.fsd_files.specs.declared.reply.Reply.{Reply}
 use Rattle.fsd_files.specs.declared.reply.Reply.TheVariants as Replies
-use Rattle.fsd_files.specs.Volume.{Volume, HasReach, forced, forced_for_place, forced_if, is_in, place_for}
+use Rattle.fsd_files.specs.Volume.{Volume, HasReach, forced_for_place, forced_if, is_in, place_for}
 use Rattle.fsd_texts.specs.declared.call.Call.{Call}
 use Rattle.fsd_texts.specs.declared.call.Call.TheVariants as Calls
 use Rattle.fsd_texts.specs.declared.command.Command.{Command}
@@ -27,7 +27,7 @@ use Rattle.fsd_texts.specs.declared.script_command.ScriptCommand.TheVariants.{Pl
 use Rattle.fsd_runs.specs.Commands.{answer}
 use Rattle.fsd_runs.specs.Errands.{is_forced}
 use Rattle.fsd_runs.specs.Sessions.{CallMayFind, FindsNext, HoldsRead, MayMeet, Meeting, answer_in, call_answer, changes_closed, changes_in_session, read_by, runs_read}
-use Rattle.fsd_runs.proofs.AnswerLaws.{Changes, Does, IsSame, Refuses, does, finds, forces_all, may_find, met_with, same_forced, same_itself}
+use Rattle.fsd_runs.proofs.AnswerLaws.{Does, IsSame, does, finds, forces_all, may_find, met_with, same_forced}
 
 -- ---- one answer: nothing is changed, or the change is made
 

@@ -96,6 +96,19 @@ keeps : request_of (codes "cfs" ∷ codes "keep" ∷ codes "v" ∷ codes "a" ∷
 unfolding clap_on_literals
 keeps = refl
 
+moves : request_of (codes "cfs" ∷ codes "move" ∷ codes "v" ∷ codes "a!1" ∷ codes "b" ∷ []) ≡ One (Word.Move (key_of (codes "a") 1) (codes "b"))
+unfolding clap_on_literals
+moves = refl
+
+-- from a key to a name, and not from a name to a key
+moves_a_name : request_of (codes "cfs" ∷ codes "move" ∷ codes "v" ∷ codes "a" ∷ codes "b!1" ∷ []) ≡ BadField BadKey
+unfolding clap_on_literals
+moves_a_name = refl
+
+moves_to_a_key : request_of (codes "cfs" ∷ codes "move" ∷ codes "v" ∷ codes "a!1" ∷ codes "b!1" ∷ []) ≡ BadField BadName
+unfolding clap_on_literals
+moves_to_a_key = refl
+
 scripts : request_of (codes "cfs" ∷ codes "script" ∷ codes "v" ∷ []) ≡ Script
 unfolding clap_on_literals
 scripts = refl

@@ -234,7 +234,57 @@ const PIECES: [Row<'static>; 3] = [
     ("cfs get v h!1", b"", 0, "abcde"),
 ];
 
-const LISTS: [&[Row<'static>]; 6] = [&VERSIONS, &SCRIPTS, &BAD, &MADE_UP, &MADE_AGAIN, &PIECES];
+// Versions that have another key then, and their bytes, serials and sectors still: the keep of the name lets go as many
+// as come. One that is open is read to its end under whatever key.
+const MOVES: [Row<'static>; 12] = [
+    ("cfs put v m", b"x", 0, "made m!1 2\n"),
+    ("cfs move v m!1 n", b"", 0, "moved m!1 n!1\n"),
+    ("cfs move v m!1 n", b"", 1, "refused no-such\n"),
+    ("cfs get v n!1", b"", 0, "x"),
+    ("cfs delete v n!1", b"", 0, "deleted n!1\n"),
+    (
+        "cfs script v",
+        b"put m 1\nx\nmove m!1 n\nlist *\nmove m!1 n\n",
+        0,
+        "made m!1 2\nmoved m!1 n!1\nn!1 1 2 2\nlisted 1\nrefused no-such\nforced\n",
+    ),
+    (
+        "cfs script v",
+        b"put n 1\ny\nput m 2 7\nzz\nmove m!1 n\nlist *\n",
+        0,
+        "made n!2 2\nmade m!1 2\nmoved m!1 n!3\nn!2 1 2 2\nn!3 2 2 2\nlisted 2\nforced\n",
+    ),
+    (
+        "cfs script v",
+        b"put a 0 7\n\nmove a!1 a\nlist a\nmove a!2 m\nlist m\nkeep a 1\n",
+        0,
+        "made a!1 1\nmoved a!1 a!2\na!2 0 1 7\nlisted 1\nmoved a!2 m!1\nm!1 0 1 7\nlisted 1\nrefused no-such\nforced\n",
+    ),
+    (
+        "cfs script v",
+        b"open 1 n!3\nmove n!3 m\nnext 1 1\ndelete m!2\nforce\nput b 1\nw\nnext 1 9\ndone 1\n",
+        0,
+        "opened 1 2\nmoved n!3 m!2\nnext 1 1\nz\ndeleted m!2\nforced\nmade b!1 2\nnext 1 1\nz\ndone 1\nforced\n",
+    ),
+    ("cfs move v n!2 b", b"", 0, "moved n!2 b!2\n"),
+    ("cfs scrub v", b"", 0, "scrubbed healed 0 damaged 0\n"),
+    (
+        "cfs script v",
+        b"move a!1\n",
+        2,
+        "forced\nbad line 1: word count\n",
+    ),
+];
+
+const LISTS: [&[Row<'static>]; 7] = [
+    &VERSIONS,
+    &SCRIPTS,
+    &BAD,
+    &MADE_UP,
+    &MADE_AGAIN,
+    &PIECES,
+    &MOVES,
+];
 
 #[test]
 fn commands_and_scripts_say_each_reply(rt: HostRuntime) -> Result<(), Fail> {

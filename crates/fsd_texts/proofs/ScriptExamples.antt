@@ -21,10 +21,10 @@ cut_short : script_in (codes "put a 3" ++ newline ++ codes "xyz" ++ newline ++ c
     ≡ (Plain (Word.Put (codes "a") (codes "xyz") None) ∷ [], ends_at 2 Causes.ShortBytes)
 cut_short = refl
 
-each_word : script_in (codes "put a 0" ++ newline ++ newline ++ codes "put a 1 7" ++ newline ++ newline ++ newline ++ codes "delete a!1" ++ newline ++ codes "keep a 1000" ++ newline ++ codes "get a!4294967295" ++ newline
+each_word : script_in (codes "put a 0" ++ newline ++ newline ++ codes "put a 1 7" ++ newline ++ newline ++ newline ++ codes "delete a!1" ++ newline ++ codes "keep a 1000" ++ newline ++ codes "move a!1 b" ++ newline ++ codes "get a!4294967295" ++ newline
     ++ codes "force" ++ newline ++ codes "tick" ++ newline)
     ≡ (
-      map (λ command. Plain command) (Word.Put (codes "a") [] None ∷ Word.Put (codes "a") newline (Some 7) ∷ Word.Delete (key_of (codes "a") 1) ∷ Word.Keep (codes "a") 1000 ∷ Word.Get (key_of (codes "a") 4294967295)
+      map (λ command. Plain command) (Word.Put (codes "a") [] None ∷ Word.Put (codes "a") newline (Some 7) ∷ Word.Delete (key_of (codes "a") 1) ∷ Word.Keep (codes "a") 1000 ∷ Word.Move (key_of (codes "a") 1) (codes "b") ∷ Word.Get (key_of (codes "a") 4294967295)
           ∷ Word.Force ∷ Word.Tick ∷ []),
       Ends.Done,
     )
@@ -52,6 +52,11 @@ lines : map (λ (bytes : List ℕ). (script_of (bytes ++ newline)).1)
     ≡ map (ends_at 1) (Causes.LongLine ∷ Causes.EmptyLine ∷ Causes.UnknownWord ∷ Causes.UnknownWord ∷ Causes.UnknownWord ∷ Causes.UnknownWord ∷ Causes.UnknownWord ∷ Causes.WordCount ∷ Causes.WordCount ∷ Causes.WordCount ∷ Causes.BadName ∷ Causes.BadName
     ∷ Causes.BadNumber ∷ Causes.BadNumber ∷ Causes.BadNumber ∷ Causes.BadNumber ∷ Causes.BadKey ∷ Causes.BadKey ∷ Causes.BadPattern ∷ Causes.ShortBytes ∷ [])
 lines = refl
+
+-- of a move the key is read first
+move_lines : map (λ (bytes : List ℕ). (script_of (bytes ++ newline)).1) (codes "move a!1" ∷ codes "move a!1 b c" ∷ codes "move a b!" ∷ codes "move a!1 b!" ∷ codes "move a!1 " ∷ [])
+    ≡ map (ends_at 1) (Causes.WordCount ∷ Causes.WordCount ∷ Causes.BadKey ∷ Causes.BadName ∷ Causes.BadName ∷ [])
+move_lines = refl
 
 -- the same where the input ends inside it, or behind it
 inputs : map (λ (bytes : List ℕ). (script_of bytes).1) (replicate 129 97 ∷ replicate 128 97 ∷ codes "xyz" ∷ (codes "put a 1" ++ newline ++ codes "x") ∷ (codes "put a 1" ++ newline ++ codes "xy") ∷ [])

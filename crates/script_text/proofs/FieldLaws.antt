@@ -3,7 +3,7 @@ use Rattle.std.proofs.Common.{◌≡◌, ℕ, List, [], ◌∷◌, length, map, 
 use Rattle.fsd_texts.specs.declared.bad_line.Cause.{Cause}
 use Rattle.fsd_texts.specs.declared.bad_line.Cause.TheVariants.{WordCount}
 use Rattle.fsd_texts.specs.declared.call.Call.{Call}
-use Rattle.fsd_texts.specs.Script.{asks_begin, asks_keep, asks_piece, asks_put, call_with_field}
+use Rattle.fsd_texts.specs.Script.{asks_begin, asks_keep, asks_move, asks_piece, asks_put, call_with_field}
 
 module _ {A : Type 0} (f : A → List ℕ) where
   pub other_put : (xs : List A) → (length xs ≡ 2 → ⊥) → (length xs ≡ 3 → ⊥) → Err WordCount ≡ asks_put (map f xs)
@@ -18,6 +18,12 @@ module _ {A : Type 0} (f : A → List ℕ) where
   other_keep (a ∷ []) two = refl
   other_keep (a ∷ b ∷ []) two = absurd (two refl)
   other_keep (a ∷ b ∷ c ∷ xs) two = refl
+
+  pub other_move : (xs : List A) → (length xs ≡ 2 → ⊥) → Err WordCount ≡ asks_move (map f xs)
+  other_move [] two = refl
+  other_move (a ∷ []) two = refl
+  other_move (a ∷ b ∷ []) two = absurd (two refl)
+  other_move (a ∷ b ∷ c ∷ xs) two = refl
 
   pub other_begin : (xs : List A) → (length xs ≡ 3 → ⊥) → Err WordCount ≡ asks_begin (map f xs)
   other_begin [] three = refl

@@ -1,7 +1,7 @@
 //! One line of a script, and what it asks for.
 ghost use Rattle.std.specs.Prelude.{◌≡◌, ◌<◌, ◌+◌, ◌∷◌, [], MatchResult, IfOk, Ok, Err, length, map, drop, ◌==◌, position};
 ghost use Rattle.fsd_texts.specs.declared.command.Command.TheVariants as Word;
-ghost use Rattle.fsd_texts.specs.Script.{asked_by, asks, asks_alone, asks_keep, asks_put, key_in, line_at, max_line, pattern_in, with_field, with_no_field, words_of};
+ghost use Rattle.fsd_texts.specs.Script.{asked_by, asks, asks_alone, asks_keep, asks_move, asks_put, key_in, line_at, max_line, pattern_in, with_field, with_no_field, words_of};
 ghost use Rattle.script_text.specs.Front.{ReadsSo};
 
 use crate::client::of_client;
@@ -68,6 +68,8 @@ fn asked(word: &[u8], fields: &[&[u8]]) -> Result<Asking, Cause>
         delete_of(fields)
     } else if word == b"keep".as_slice() {
         keep_of(fields)
+    } else if word == b"move".as_slice() {
+        move_of(fields)
     } else if word == b"list".as_slice() {
         list_of(fields)
     } else if word == b"get".as_slice() {
@@ -117,6 +119,23 @@ fn keep_of(fields: &[&[u8]]) -> Result<Asking, Cause>
         })),
         _ => Err(Cause::WordCount),
     }
+}
+
+fn move_of(fields: &[&[u8]]) -> Result<Asking, Cause>
+    ensures { result ≡ asks_move (map (λ w. w.now) fields.now) }
+{
+    match fields {
+        [key, name] => move_with(key, name),
+        _ => Err(Cause::WordCount),
+    }
+}
+
+fn move_with(key: &[u8], name: &[u8]) -> Result<Asking, Cause>
+    ensures { result ≡ asks_move (key.now ∷ name.now ∷ []) }
+{
+    let key = key_of(key)?;
+    let name = name_of(name)?;
+    Ok(Asking::Plainly(Command::Move { key, name }))
 }
 
 fn delete_of(fields: &[&[u8]]) -> Result<Asking, Cause>

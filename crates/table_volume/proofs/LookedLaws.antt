@@ -31,7 +31,7 @@ use Rattle.volume_laws.proofs.CauseLaws.{causes_by, met_left}
 use Rattle.volume_laws.proofs.EnteredCalls.{place_told}
 use Rattle.volume_laws.proofs.EntryLaws.{lost_found, taken_there}
 use Rattle.volume_laws.proofs.FindLaws.{stands_found}
-use Rattle.volume_laws.proofs.ReadLaws.{shows_by, unsound_by}
+use Rattle.volume_laws.proofs.ReadLaws.{looked_behind, shows_by, unsound_by}
 use Rattle.volume_laws.proofs.TakenLaws.{taken_is_told}
 use Rattle.table_volume.specs.Looks.{LooksInto}
 use Rattle.table_volume.proofs.TableCallLaws.{failed_each, found_each}
@@ -86,6 +86,7 @@ module _ {D : Type 0} (M : MachineGhosts D) (short : (m : D) → M.honest m → 
         cause = looked_cause M by_log.ghosts log m' c v.free_pages home r result says (failed_each r (λ fault x. x.cause) failed);
         causes = causes_by M (resident w) (state w) (state left) m m' result (λ a b lost h. lost_found M m m' v w is whole c log of_log home a b (state left) r result says looks lost h)
             (unsound_by M m m' v w is whole c log of_log (state left) home first r result says looks (failed_each r (λ fault x. x.shown) failed));
+        behind = looked_behind M m m' v w is whole c free same log of_log (outer_told r) looks;
         page = looked_ok home r result says (λ found. IfSome found (λ f. f.page < w.layout.pages))
             (subst (λ (n : ℕ). IfOk r (λ found. IfSome found (λ f. f.page < n))) (whole.pages ∙ ap (λ (x : VolumeValue). x.layout.pages) is) (found_each A r (λ f x. x.page) told));
         entry = looked_ok home r result says (λ found. IfSome found (λ f. is_entry f.entry ≡ true)) (found_each A r (λ f x. x.entry) told);

@@ -21,6 +21,7 @@ use Rattle.volume_contract.specs.Healing.{IsMet}
 use Rattle.volume_contract.specs.Order.{IsLookUp}
 use Rattle.volume_contract.specs.State.{Known, Stands, volume_of}
 use Rattle.volume_contract.specs.Telling.{TellsEntry}
+use Rattle.volume_laws.specs.Behind.{IsBehind}
 use Rattle.volume_laws.specs.State.{IsMemoryOf, resident, state}
 use Rattle.volume_laws.specs.Taken.{are_taken, met_entry}
 use Rattle.volume_laws.specs.Volume.{VolumeValue}
@@ -28,7 +29,7 @@ use Rattle.volume_laws.specs.Volume.{VolumeValue}
 -- ---- entries
 
 -- Pages are read into the cache, and nothing else is changed: the volume stands as it stood. A refusal is one of a look-up,
--- and has its cause. What is found is an entry by the grammar, in a page of the table; where its sectors are not taken, that is the
+-- and has its cause; what is in memory then was there before, or stood in a copy. What is found is an entry by the grammar, in a page of the table; where its sectors are not taken, that is the
 -- page's fault. The entries of a volume that stands are all taken, and what is taken is told so.
 pub record LooksInto {D : Type 0} (M : Ghosts D) (old new : VolumeValue) (before now : D) (result : Result (Option FoundEntry) Refusal) : Type 0 where
   pub disk : OnlyReads M (device_in device_of result) before now
@@ -37,6 +38,7 @@ pub record LooksInto {D : Type 0} (M : Ghosts D) (old new : VolumeValue) (before
   pub stands : M.honest now → (k : Known) → Stands state IsMemoryOf old k (M.now before) → Stands state IsMemoryOf new k (M.now now)
   pub cause : IfErr result IsLookUp
   pub causes : Causes M (resident old) (state old) (state new) before now result
+  pub behind : M.honest now → IsBehind (state old) (state new) (resident old) (resident new) (M.now before) (M.now now)
   pub page : IfOk result (λ found. IfSome found (λ f. f.page < old.layout.pages))
   pub entry : IfOk result (λ found. IfSome found (λ f. is_entry f.entry ≡ true))
   pub met : IfOk result (λ found. IfSome found (λ f. Causes M (resident old) (state old) (state new) before now (met_entry new f.page f.entry)))

@@ -10,6 +10,7 @@ ghost use Rattle.volume_contract.specs.Causes.{Causes};
 ghost use Rattle.volume_contract.specs.Ends.{device_of};
 ghost use Rattle.volume_contract.specs.Order.{Follows};
 ghost use Rattle.volume_contract.specs.State.{Known, Stands, volume_of};
+ghost use Rattle.volume_contract.specs.Telling.{TellsGone};
 ghost use Rattle.volume_laws.specs.Ending.{Edits, EndsEdit, GivesUp, delete_tests, edit_steps, look_steps};
 ghost use Rattle.volume_laws.specs.State.{IsMemoryOf, resident, state};
 ghost use Rattle.volume_laws.specs.Taken.{are_taken};
@@ -39,8 +40,8 @@ fn give_up(shadow: &mut Shadow, versions: &mut u32, cache: &Cache, runs: &Runs)
 }
 
 impl Volume {
-    /// That a version may be taken out.
-    pub(crate) fn may_delete(&self) -> Result<(), Refusal>
+    /// That a version may be taken out, or moved.
+    pub(crate) fn may_change(&self) -> Result<(), Refusal>
         ensures { Follows (delete_tests (state self.now)) result }
     {
         self.is_up()?;
@@ -92,7 +93,7 @@ impl Volume {
         ensures order { Follows look_steps result }
         ensures disk { OnlyReads M.Machine (device_in device_of result) m.old m.new }
         ensures edited { Edits (state self.old) (state self.new) result }
-        ensures causes { Causes M.Machine (resident self.old) (state self.old) (state self.new) m.old m.new result }
+        ensures tells { TellsGone M.Machine (resident self.old) (state self.old) (state self.new) m.old m.new key.now result }
         ensures done { M.honest m.new → (k : Known) → Stands state IsMemoryOf self.old k (M.now m.old) →
             EndsEdit (λ met. delete_outcome met (volume_of k) key.now) (λ x. Deleted key.now) (Change.Delete key.now) k self.new (M.now m.new) result }
     {

@@ -47,7 +47,7 @@ impl<M: Machine> Files<M> for Volume {
     }
 
     fn delete(&mut self, m: &mut M, key: &Key) -> Result<(), Refusal> {
-        self.may_delete()?;
+        self.may_change()?;
         self.force_first(m)?;
         self.delete_now(m, key)
     }
@@ -56,6 +56,12 @@ impl<M: Machine> Files<M> for Volume {
         self.may_keep(keep)?;
         self.force_first(m)?;
         self.keep_now(m, name, keep)
+    }
+
+    fn move_to(&mut self, m: &mut M, key: &Key, name: &FileName) -> Result<Key, Refusal> {
+        self.may_change()?;
+        self.force_first(m)?;
+        self.move_now(m, key, name)
     }
 
     fn entry(&mut self, m: &mut M, key: &Key) -> Result<Entry, Refusal> {

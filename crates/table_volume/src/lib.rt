@@ -12,6 +12,7 @@ mod holding;
 mod keeping;
 mod making;
 mod mounting;
+mod moving;
 mod next;
 mod pieces;
 mod placing;

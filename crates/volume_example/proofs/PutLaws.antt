@@ -18,9 +18,8 @@ use Rattle.fsd_files.specs.Files.{Change, File, Files, gone_keys, new_keep, new_
 use Rattle.fsd_files.specs.Kept.{Lists}
 use Rattle.fsd_files.specs.declared.reply.Reply.TheVariants.{Made}
 use Rattle.fsd_files.specs.Volume.{Volume, drawn, forced, forced_for_place, forced_if, place_for}
-use Rattle.fsd_files.proofs.ChangeLaws.{same_key_turned}
 use Rattle.fsd_files.proofs.HistoryLaws.{keys_total}
-use Rattle.fsd_files.proofs.ListingLaws.{alike_is}
+use Rattle.fsd_files.proofs.ListingLaws.{alike_is, same_key_turned}
 
 -- ---- what an outcome tells
 

@@ -16,15 +16,15 @@ use Rattle.fsd_sound.specs.Writes.{force_writes}
 use Rattle.fsd_sound.proofs.MountedLaws.{mounted_sound}
 use Rattle.fsd_runs.specs.Runs.{last_count}
 use Rattle.volume_contract.specs.Ends.{AnswersAndStands, Ends, Unchanged}
-use Rattle.volume_contract.specs.Order.{Comes, Follows, Force, KeepsRefused, PassesTest, CallStep, Test, Through, by_itself, is_idle, worn}
+use Rattle.volume_contract.specs.Order.{Asks, Comes, Fetch, Follows, Force, KeepsRefused, LookUp, PassesTest, CallStep, Test, Through, by_itself, is_idle, table_full, worn}
 use Rattle.volume_contract.specs.State.{Counted, GoesOn, HasCounted, HasLogged, IsForced, KeepsLog, Known, Leaves, Stands, State, downs, forced_of, forces_first, is_worn, numbered, volume_of}
-use Rattle.volume_laws.specs.Ending.{Edits, EndsEdit, IsEdited, look_steps}
+use Rattle.volume_laws.specs.Ending.{Edits, EndsEdit, IsEdited, look_steps, moving_steps}
 use Rattle.volume_laws.specs.Preparing.{EndsForced, ForcesByItself, StandsForced}
 use Rattle.volume_laws.specs.State.{IsMemoryOf, state}
 use Rattle.volume_laws.specs.Steps.{Went}
 use Rattle.volume_laws.specs.Volume.{VolumeValue}
 use Rattle.volume_laws.proofs.LogLaws.{keeps_same, logged_forced, logged_none, logged_still}
-use Rattle.volume_laws.proofs.StepLaws.{comes_behind, comes_more, idle_behind, keeps_behind, keeps_more, through_more}
+use Rattle.volume_laws.proofs.StepLaws.{comes_behind, comes_more, idle_behind, keeps_behind, keeps_more, through_more, went_pages}
 use Rattle.volume_laws.proofs.StoreLaws.{IsOn, sound_on}
 use Rattle.volume_laws.specs.WearLaws.{stands_worn}
 
@@ -63,105 +63,132 @@ went_tests : (tests : List (Option Refusal)) (s : State) → Through (tests_of t
 went_tests [] s through = refl
 went_tests (o ∷ tests) s through = (through.0, went_tests tests s through.1)
 
--- a call that comes to its look-up is not idle
-busy_look : (b : Bool) → is_idle (Force b ∷ look_steps) ≡ true → ⊥
-busy_look true idle = absurd (cc idle)
-busy_look false idle = absurd (cc idle)
+-- ---- what comes behind the force
 
-module _ (s : State) (tests : List (Option Refusal)) (through : Through (tests_of tests)) where
+-- A call that comes to these steps is not idle, and none of them changes what it refuses.
+pub record CanFollow (more : List CallStep) : Type 0 where
+  busy : (b : Bool) → is_idle (Force b ∷ more) ≡ true → ⊥
+  keeps : (why : Refusal) (t : State) → Comes more why → KeepsRefused more why t t
+
+busy_look : (more : List CallStep) (b : Bool) → is_idle (Force b ∷ LookUp ∷ more) ≡ true → ⊥
+busy_look more true idle = absurd (cc idle)
+busy_look more false idle = absurd (cc idle)
+
+look_keeps : (why : Refusal) (t : State) → Comes look_steps why → KeepsRefused look_steps why t t
+look_keeps why t (inl look) = inl (look, refl)
+look_keeps why t (inr (passes, inl none)) = inr (passes, inl (none, refl))
+look_keeps why t (inr (passes, inr more)) = absurd more.1
+
+pub look_follows : CanFollow look_steps
+look_follows = record { busy = busy_look (Asks Why.NoSuch ∷ []); keeps = look_keeps }
+
+moving_keeps : (s : State) (why : Refusal) (t : State) → Comes (moving_steps s) why → KeepsRefused (moving_steps s) why t t
+moving_keeps s why t (inl look) = inl (look, refl)
+moving_keeps s why t (inr (passes, inl none)) = inr (passes, inl (none, refl))
+moving_keeps s why t (inr (passes, inr (other, inl used))) = inr (passes, inr (other, inl (used, refl)))
+moving_keeps s why t (inr (passes, inr (other, inr (usable, inl full)))) = inr (passes, inr (other, inr (usable, inl (full, refl))))
+moving_keeps s why t (inr (passes, inr (other, inr (usable, inr (room, inl fetch))))) = inr (passes, inr (other, inr (usable, inr (room, inl (fetch, refl)))))
+moving_keeps s why t (inr (passes, inr (other, inr (usable, inr (room, inr more))))) = absurd more.1
+
+pub move_follows : (s : State) → CanFollow (moving_steps s)
+move_follows s = record { busy = busy_look (Asks Why.NoSuch ∷ Asks Why.VersionsUsedUp ∷ table_full s ∷ Fetch ∷ []); keeps = moving_keeps s }
+
+-- behind the force as before it
+pub moving_same : (s t : State) → ForcesByItself s t (Ok tt) → moving_steps t ≡ moving_steps s
+moving_same s t forces = ap (λ (pages : List ℕ). moving_steps (record s { free_pages = pages })) (went_pages (by_itself s ∷ []) s t forces.kept)
+
+-- ---- the force has come
+
+module _ (s : State) (tests : List (Option Refusal)) (through : Through (tests_of tests)) (t u : State) (forces : ForcesByItself s t (Ok tt)) where
+  went : ((forces_first s ≡ false) × (t ≡ s)) ⊎ ((forces_first s ≡ true) × IsForced s t)
+  went = by (forces_first s) refl forces.kept
+    where
+      by : (b : Bool) → forces_first s ≡ b → Went (Force b ∷ []) s t → ((forces_first s ≡ false) × (t ≡ s)) ⊎ ((forces_first s ≡ true) × IsForced s t)
+      by true is kept = inr (is, subst (IsForced s) (sym kept.2) kept.1)
+      by false is kept = inl (is, kept.1)
+
+  still_down : t.down ≡ s.down
+  still_down = elim forces.state.down [
+    | inl same ↦ same
+    | inr gone ↦ absurd (cc gone.0)
+  ]
+
+  -- it is up, and the next record can be numbered
+  pub up_behind : s.down ≡ None → t.down ≡ None
+  up_behind up = still_down ∙ up
+
+  pub number_behind : s.head.number < last_count → t.head.number < 2 ^ 32 - 1
+  number_behind small = elim went [
+    | inl none ↦ omega (arith, small, ap (λ (x : State). x.head.number) none.1)
+    | inr came ↦ omega (arith, small, came.1.number, one_more (length s.dirty == 0) s.head.number)
+  ]
+
+  log_edited : IsEdited t u → KeepsLog t u
+  log_edited edited = record { anchor = ap (λ (x : State). x.anchor) edited.is; head = ap (λ (x : State). x.head) edited.is; slots = ap (λ (x : State). x.slots) edited.is }
+
+  counted_ok : IsEdited t u → HasCounted false (forces_first s) s u
+  counted_ok edited = elim went [
+    | inl none ↦ record {
+      count = ap (λ (x : State). x.serial.count) edited.is ∙ ap (λ (x : State). x.serial.count) none.1;
+      number = ap (λ (x : State). x.head.number) edited.is ∙ ap (λ (x : State). x.head.number) none.1 ∙ ap (λ (b : Bool). cond b (numbered s) s.head.number) (sym none.0);
+      log = subst (λ (b : Bool). HasLogged b s u) (sym none.0) (logged_still t u (log_edited edited) false s (logged_none s t (keeps_same s t none.1)));
+    }
+    | inr came ↦ record {
+      count = ap (λ (x : State). x.serial.count) edited.is ∙ ap (λ (x : State). x.serial.count) came.1.is;
+      number = ap (λ (x : State). x.head.number) edited.is ∙ came.1.number ∙ ap (λ (b : Bool). cond b (numbered s) s.head.number) (sym came.0);
+      log = subst (λ (b : Bool). HasLogged b s u) (sym came.0) (logged_still t u (log_edited edited) true s (logged_forced s t came.1));
+    }
+  ]
+
+  pub change_goes : {T : Type 0} (r : Result T Refusal) → Edits t u r → GoesOn (downs r) s u
+  change_goes (Ok x) edited = record {
+    layout = ap (λ (y : State). y.layout) edited.is ∙ forces.state.layout;
+    epoch = ap (λ (y : State). y.serial.epoch) edited.is ∙ forces.state.epoch;
+    readers = ap (λ (y : State). y.readers) edited.is ∙ forces.state.readers;
+    unfinished = ap (λ (y : State). y.unfinished) edited.is ∙ forces.state.unfinished;
+    down = inl (ap (λ (y : State). y.down) edited.is ∙ still_down);
+  }
+  change_goes (Err why) same = record {
+    layout = ap (λ (y : State). y.layout) same ∙ forces.state.layout;
+    epoch = ap (λ (y : State). y.serial.epoch) same ∙ forces.state.epoch;
+    readers = ap (λ (y : State). y.readers) same ∙ forces.state.readers;
+    unfinished = ap (λ (y : State). y.unfinished) same ∙ forces.state.unfinished;
+    down = inl (ap (λ (y : State). y.down) same ∙ still_down);
+  }
+
+-- ---- and what comes behind it
+
+module _ (s : State) (tests : List (Option Refusal)) (through : Through (tests_of tests)) {more : List CallStep} (can : CanFollow more) where
   abbrev steps : List CallStep
-  steps = tests_of tests ++ by_itself s ∷ look_steps
+  steps = tests_of tests ++ by_itself s ∷ more
 
   pub busy : is_idle steps ≡ true → ⊥
-  busy idle = busy_look (forces_first s) (idle_behind (tests_of tests) (by_itself s ∷ look_steps) through idle)
+  busy idle = can.busy (forces_first s) (idle_behind (tests_of tests) (by_itself s ∷ more) through idle)
 
-  passed : (why : Refusal) (t : State) → KeepsRefused (by_itself s ∷ look_steps) why s t → KeepsRefused steps why s t
-  passed why t keeps = keeps_behind (tests_of tests) (by_itself s ∷ look_steps) why s s t (went_tests tests s through) keeps
+  passed : (why : Refusal) (t : State) → KeepsRefused (by_itself s ∷ more) why s t → KeepsRefused steps why s t
+  passed why t keeps = keeps_behind (tests_of tests) (by_itself s ∷ more) why s s t (went_tests tests s through) keeps
 
   -- ---- the force fails
 
   pub failed_keeps : (why : Refusal) (t : State) → KeepsRefused (by_itself s ∷ []) why s t → KeepsRefused steps why s t
-  failed_keeps why t keeps = passed why t (keeps_more (by_itself s ∷ []) look_steps why s t keeps)
+  failed_keeps why t keeps = passed why t (keeps_more (by_itself s ∷ []) more why s t keeps)
 
   pub failed_comes : (why : Refusal) → Comes (by_itself s ∷ []) why → Comes steps why
-  failed_comes why comes = comes_behind (tests_of tests) (by_itself s ∷ look_steps) why through (comes_more (by_itself s ∷ []) look_steps why comes)
+  failed_comes why comes = comes_behind (tests_of tests) (by_itself s ∷ more) why through (comes_more (by_itself s ∷ []) more why comes)
 
   -- ---- the change comes
 
   module _ (t u : State) (forces : ForcesByItself s t (Ok tt)) where
-    went : ((forces_first s ≡ false) × (t ≡ s)) ⊎ ((forces_first s ≡ true) × IsForced s t)
-    went = by (forces_first s) refl forces.kept
-      where
-        by : (b : Bool) → forces_first s ≡ b → Went (Force b ∷ []) s t → ((forces_first s ≡ false) × (t ≡ s)) ⊎ ((forces_first s ≡ true) × IsForced s t)
-        by true is kept = inr (is, subst (IsForced s) (sym kept.2) kept.1)
-        by false is kept = inl (is, kept.1)
+    behind : (why : Refusal) → KeepsRefused more why t t → KeepsRefused (by_itself s ∷ more) why s t
+    behind why keeps = keeps_behind (by_itself s ∷ []) more why s t t forces.kept keeps
 
-    still_down : t.down ≡ s.down
-    still_down = elim forces.state.down [
-      | inl same ↦ same
-      | inr gone ↦ absurd (cc gone.0)
-    ]
+    pub change_kept : {T : Type 0} (r : Result T Refusal) → Follows more r → Edits t u r → MatchResult r (λ x. HasCounted false (forces_first s) s u) (λ why. KeepsRefused steps why s u)
+    change_kept (Ok x) follows edited = counted_ok s tests through t u forces edited
+    change_kept (Err why) comes same = subst (λ (x : State). KeepsRefused steps why s x) (sym same) (passed why t (behind why (can.keeps why t comes)))
 
-    -- it is up, and the next record can be numbered
-    pub up_behind : s.down ≡ None → t.down ≡ None
-    up_behind up = still_down ∙ up
-
-    pub number_behind : s.head.number < last_count → t.head.number < 2 ^ 32 - 1
-    number_behind small = elim went [
-      | inl none ↦ omega (arith, small, ap (λ (x : State). x.head.number) none.1)
-      | inr came ↦ omega (arith, small, came.1.number, one_more (length s.dirty == 0) s.head.number)
-    ]
-
-    look_keeps : (why : Refusal) → Comes look_steps why → KeepsRefused look_steps why t t
-    look_keeps why (inl look) = inl (look, refl)
-    look_keeps why (inr (passes, inl none)) = inr (passes, inl (none, refl))
-    look_keeps why (inr (passes, inr more)) = absurd more.1
-
-    behind : (why : Refusal) → KeepsRefused look_steps why t t → KeepsRefused (by_itself s ∷ look_steps) why s t
-    behind why keeps = keeps_behind (by_itself s ∷ []) look_steps why s t t forces.kept keeps
-
-    log_edited : IsEdited t u → KeepsLog t u
-    log_edited edited = record { anchor = ap (λ (x : State). x.anchor) edited.is; head = ap (λ (x : State). x.head) edited.is; slots = ap (λ (x : State). x.slots) edited.is }
-
-    counted_ok : IsEdited t u → HasCounted false (forces_first s) s u
-    counted_ok edited = elim went [
-      | inl none ↦ record {
-        count = ap (λ (x : State). x.serial.count) edited.is ∙ ap (λ (x : State). x.serial.count) none.1;
-        number = ap (λ (x : State). x.head.number) edited.is ∙ ap (λ (x : State). x.head.number) none.1 ∙ ap (λ (b : Bool). cond b (numbered s) s.head.number) (sym none.0);
-        log = subst (λ (b : Bool). HasLogged b s u) (sym none.0) (logged_still t u (log_edited edited) false s (logged_none s t (keeps_same s t none.1)));
-      }
-      | inr came ↦ record {
-        count = ap (λ (x : State). x.serial.count) edited.is ∙ ap (λ (x : State). x.serial.count) came.1.is;
-        number = ap (λ (x : State). x.head.number) edited.is ∙ came.1.number ∙ ap (λ (b : Bool). cond b (numbered s) s.head.number) (sym came.0);
-        log = subst (λ (b : Bool). HasLogged b s u) (sym came.0) (logged_still t u (log_edited edited) true s (logged_forced s t came.1));
-      }
-    ]
-
-    module _ {T : Type 0} where
-      pub change_kept : (r : Result T Refusal) → Follows look_steps r → Edits t u r → MatchResult r (λ x. HasCounted false (forces_first s) s u) (λ why. KeepsRefused steps why s u)
-      change_kept (Ok x) follows edited = counted_ok edited
-      change_kept (Err why) comes same =
-          subst (λ (x : State). KeepsRefused steps why s x) (sym same) (passed why t (behind why (look_keeps why comes)))
-
-      pub change_follows : (r : Result T Refusal) → Follows look_steps r → Follows steps r
-      change_follows (Ok x) follows = through_more (tests_of tests) (by_itself s ∷ look_steps) through (tt, follows)
-      change_follows (Err why) comes = comes_behind (tests_of tests) (by_itself s ∷ look_steps) why through (inr (tt, comes))
-
-      pub change_goes : (r : Result T Refusal) → Edits t u r → GoesOn (downs r) s u
-      change_goes (Ok x) edited = record {
-        layout = ap (λ (y : State). y.layout) edited.is ∙ forces.state.layout;
-        epoch = ap (λ (y : State). y.serial.epoch) edited.is ∙ forces.state.epoch;
-        readers = ap (λ (y : State). y.readers) edited.is ∙ forces.state.readers;
-        unfinished = ap (λ (y : State). y.unfinished) edited.is ∙ forces.state.unfinished;
-        down = inl (ap (λ (y : State). y.down) edited.is ∙ still_down);
-      }
-      change_goes (Err why) same = record {
-        layout = ap (λ (y : State). y.layout) same ∙ forces.state.layout;
-        epoch = ap (λ (y : State). y.serial.epoch) same ∙ forces.state.epoch;
-        readers = ap (λ (y : State). y.readers) same ∙ forces.state.readers;
-        unfinished = ap (λ (y : State). y.unfinished) same ∙ forces.state.unfinished;
-        down = inl (ap (λ (y : State). y.down) same ∙ still_down);
-      }
+    pub change_follows : {T : Type 0} (r : Result T Refusal) → Follows more r → Follows steps r
+    change_follows (Ok x) follows = through_more (tests_of tests) (by_itself s ∷ more) through (tt, follows)
+    change_follows (Err why) comes = comes_behind (tests_of tests) (by_itself s ∷ more) why through (inr (tt, comes))
 
 -- ---- what is counted
 
@@ -253,6 +280,8 @@ module _ {T : Type 0} (outcome : Volume → Met → Outcome) (says : T → Reply
   change_ends u at (Err (Why.Device s)) ends = inr (p.after, unchanged k mid now p, ends)
   change_ends u at (Err Why.Memory) ends = (p.after, unchanged k mid now p, ends)
   change_ends u at (Err Why.NoSuch) ends = answered (Refused Why.NoSuch) [] u at ends
+  change_ends u at (Err Why.VersionsUsedUp) ends = answered (Refused Why.VersionsUsedUp) [] u at ends
+  change_ends u at (Err (Why.NameTableFull n)) ends = answered (Refused (Why.NameTableFull n)) [] u at ends
   change_ends u at (Err why) ends = absurd ends
 
 pub force_ends : {T : Type 0} (outcome : Met → Outcome) (says : T → Reply) (change : Change) (k : Known) (u : VolumeValue) (now : Moment) (why : Refusal) → EndsForced k u now (Err why) → Ends state IsMemoryOf outcome says change k u now (Err why)

@@ -1,6 +1,6 @@
 -- What is known behind a force, and why a look-up there tells something as lost or as unsound, said of the volume before the force.
 use Rattle.std.proofs.Common.{◌≡◌, ◌⊎◌, inl, inr, ℕ, ◌<◌, Bool, true, false, cond, nat_le, nat_lt, List, length, Option, Some, None, Result, Ok, Err, refl, sym, ap, subst, ◌∙◌, arith}
-use Rattle.std.specs.Prelude.{IfSome, IsErrAnd, IsFalse, IsTrue}
+use Rattle.std.specs.Prelude.{IfOk, IfSome, IsErrAnd, IsFalse, IsTrue, OnOk}
 use Rattle.volume_layout.specs.declared.layout.Layout.{Layout}
 use Rattle.std.proofs.lemmas.Bool.{and_parts, leb-true}
 use Rattle.volume_layout.specs.Layout.{data_start, home_a, is_data}
@@ -18,6 +18,7 @@ use Rattle.sector_disk.proofs.Wear.{worn_refl, worn_trans, worn_whole}
 use Rattle.fsd_formats.specs.declared.entry.Entry.{Entry}
 use Rattle.fsd_table.specs.Breaks.{Breaks}
 use Rattle.fsd_files.specs.Disk.{Image, SectorWorn}
+use Rattle.name_btree.specs.declared.lookup.FoundEntry.{FoundEntry}
 use Rattle.fsd_log.specs.Places.{LieInRecord}
 use Rattle.fsd_log.specs.declared.slot.Slot.{Slot}
 use Rattle.fsd_sound.specs.Logged.{StandsLogged}
@@ -26,6 +27,11 @@ use Rattle.volume_contract.specs.Causes.{AreSomeCopies, AreCopiesOfPage, BreaksM
 use Rattle.volume_contract.specs.Order.{Comes, with_drawn}
 use Rattle.volume_contract.specs.State.{State, forces_first, forces_for_place}
 use Rattle.volume_contract.specs.Behind.{IsBehindForce}
+use Rattle.volume_contract.specs.Found.{ShowsReached}
+use Rattle.volume_laws.specs.Behind.{IsBehind}
+use Rattle.fsd_table.specs.Reached.{HasEntry, ReachesPage}
+use Rattle.fsd_sound.specs.Lookups.{HasKey}
+use Rattle.fsd_table.specs.Table.{Visit}
 use Rattle.volume_laws.specs.Ending.{Edits, delete_tests, keep_tests}
 use Rattle.volume_laws.specs.Placing.{HasStored}
 use Rattle.volume_laws.specs.State.{resident, state}
@@ -35,19 +41,10 @@ use Rattle.volume_laws.proofs.PutCauses.{copies_of, none_before, told_of}
 use Rattle.volume_laws.proofs.TestedLaws.{delete_tested, keep_tested}
 use Rattle.volume_laws.proofs.WrittenLaws.{merged, merged_at, merged_size}
 
-module _ (s t u : State) (before after : ℕ → Option (List ℕ)) (old mid now : Moment) (behind : IsBehindForce s t before after mid) (slots : u.slots ≡ t.slots) (layout : u.layout ≡ t.layout) (wears : Wears mid now) where
+-- what stood in a copy stood in one whatever came behind it that left the log
+module _ (s t u : State) (old mid now : Moment) (slots : u.slots ≡ t.slots) (layout : u.layout ≡ t.layout) (wears : Wears mid now) where
   copies_now : (page a b : ℕ) → AreCopiesOfPage t page a b → AreCopiesOfPage u page a b
   copies_now page a b copies = copies_of u t page a b (sym slots) (sym layout) copies
-
-  lost_behind : (a b : ℕ) → AreSomeCopies t u a b → AreSomeCopies s u a b
-  lost_behind a b copies = record {
-    page = copies.page;
-    within = subst (λ (l : Layout). copies.page < l.pages) behind.layout copies.within;
-    copies = elim copies.copies [
-      | inl first ↦ inr (copies_now copies.page a b first)
-      | inr then_so ↦ inr then_so
-    ];
-  }
 
   stands_now : (i : Image) (page : ℕ) (bytes : List ℕ) → StandsInCopy t i page bytes → StandsInCopy u i page bytes
   stands_now i page bytes stands = record { a = stands.a; b = stands.b; copies = told_of u t page stands.a stands.b (sym slots) (sym layout) stands.copies; whole = stands.whole }
@@ -67,24 +64,50 @@ module _ (s t u : State) (before after : ℕ → Option (List ℕ)) (old mid now
   worn_now : (i : Image) → IsWorn (open_damage mid.windows) i mid.image → IsWorn (open_damage now.windows) i now.image
   worn_now i worn = subst (λ (w : Windows). IsWorn (open_damage w) i now.image) (sym wears.windows) (worn_trans (open_damage mid.windows) i mid.image now.image worn wears.image)
 
-  -- what stands in the log stands in a copy
-  in_copy : (page : ℕ) (bytes : List ℕ) → (stands : StandsLogged t.layout t.slots mid page bytes) → StandsInCopy t stands.seen page bytes
-  in_copy page bytes stands = record { a = stands.a; b = stands.b; copies = inl stands.logged.lies; whole = inl stands.first }
+  stood_behind : (page : ℕ) (bytes : List ℕ) → StoodInCopy s t old mid page bytes → StoodInCopy s u old now page bytes
+  stood_behind page bytes (seen, inl first) = (seen, inl first)
+  stood_behind page bytes (seen, inr (worn, stands)) = (seen, inr (worn_now seen worn, stands_now seen page bytes stands))
 
-  stood_behind : (page : ℕ) (bytes : List ℕ) → StandsLogged t.layout t.slots mid page bytes → StoodInCopy s u old now page bytes
-  stood_behind page bytes stands = (stands.seen, inr (worn_now stands.seen stands.worn, stands_now stands.seen page bytes (in_copy page bytes stands)))
+  -- what was read shows the same then
+  pub shows_after : (before : ℕ → Option (List ℕ)) (Is Then : List (List ℕ) → Type 0) → ((pages : List (List ℕ)) → Is pages → Then pages) → ShowsOfPages s t before old mid Is → ShowsOfPages s u before old now Then
+  shows_after before Is Then more shows = record {
+    read = shows.read;
+    are_read = λ page. by page (shows.read page) (shows.are_read page);
+    is = λ pages have. more pages (shows.is pages have);
+  }
+    where
+      by : (page : ℕ) (o : Option (List ℕ)) → IfSome o (IsRead s t before old mid page) → IfSome o (IsRead s u before old now page)
+      by page None read = tt
+      by page (Some bytes) read = record { within = read.within; source = elim read.source [ inl there ↦ inl there | inr stood ↦ inr (stood_behind page bytes stood) ] }
+
+module _ (s t u : State) (before after : ℕ → Option (List ℕ)) (old mid now : Moment) (behind : IsBehind s t before after old mid) (slots : u.slots ≡ t.slots) (layout : u.layout ≡ t.layout) (wears : Wears mid now) where
+  lost_behind : (a b : ℕ) → AreSomeCopies t u a b → AreSomeCopies s u a b
+  lost_behind a b copies = record {
+    page = copies.page;
+    within = subst (λ (l : Layout). copies.page < l.pages) behind.layout copies.within;
+    copies = elim copies.copies [
+      | inl first ↦ inr (copies_now s t u old mid now slots layout wears copies.page a b first)
+      | inr then_so ↦ inr then_so
+    ];
+  }
 
   stood_then : (page : ℕ) (bytes : List ℕ) → StoodInCopy t u mid now page bytes → StoodInCopy s u old now page bytes
-  stood_then page bytes (seen, inl (worn, stands)) = (mid.image, inr (worn_now mid.image (worn_refl (open_damage mid.windows) mid.image), stands_now mid.image page bytes (whole_before mid.image seen page bytes worn stands)))
+  stood_then page bytes (seen, inl (worn, stands)) = (
+    mid.image,
+    inr (
+      worn_now s t u old mid now slots layout wears mid.image (worn_refl (open_damage mid.windows) mid.image),
+      stands_now s t u old mid now slots layout wears mid.image page bytes (whole_before s t u old mid now slots layout wears mid.image seen page bytes worn stands),
+    ),
+  )
   stood_then page bytes (seen, inr (worn, stands)) = (seen, inr (worn, stands))
 
   read_behind : (page : ℕ) (bytes : List ℕ) → IsRead t u after mid now page bytes → IsRead s u before old now page bytes
   read_behind page bytes read = record {
     within = subst (λ (l : Layout). page < l.pages) behind.layout read.within;
     source = elim read.source [
-      | inl there ↦ elim (behind.pages page bytes there) [
+      | inl there ↦ elim (behind.pages page bytes read.within there) [
         | inl was ↦ inl was
-        | inr stood ↦ inr (stood_behind page bytes stood)
+        | inr stood ↦ inr (stood_behind s t u old mid now slots layout wears page bytes stood)
       ]
       | inr stood ↦ inr (stood_then page bytes stood)
     ];
@@ -123,11 +146,57 @@ module _ (s t u : State) (before after : ℕ → Option (List ℕ)) (old mid now
   cause_behind (Why.Unsound place) shows = shows_behind (λ pages. BreaksMounted t pages place) (λ pages. BreaksMounted s pages place) (λ pages broken. breaks_behind pages place broken) shows
   cause_behind why cause = tt
 
+-- what stands in the log stands in a copy
+pub forced_behind : (s t : State) (before after : ℕ → Option (List ℕ)) (old mid : Moment) → IsBehindForce s t before after mid → IsBehind s t before after old mid
+forced_behind s t before after old mid behind = record { layout = behind.layout; free_pages = behind.free_pages; pages = λ page bytes lt is. by page bytes (behind.pages page bytes is); untaken = behind.untaken }
+  where
+    by : (page : ℕ) (bytes : List ℕ) → ((before page ≡ Some bytes) ⊎ StandsLogged t.layout t.slots mid page bytes) → (before page ≡ Some bytes) ⊎ StoodInCopy s t old mid page bytes
+    by page bytes (inl was) = inl was
+    by page bytes (inr logged) = inr (logged.seen, inr (logged.worn, record { a = logged.a; b = logged.b; copies = inl logged.logged.lies; whole = inl logged.first }))
+
+-- behind any stage
+pub causes_since : {D T : Type 0} (M : Ghosts D) (s t u : State) (before after : ℕ → Option (List ℕ)) (old mid now : D) → (M.honest now → IsBehind s t before after (M.now old) (M.now mid)) → u.slots ≡ t.slots → u.layout ≡ t.layout → (M.honest now → Wears (M.now mid) (M.now now))
+    → (r : Result T Refusal) → Causes M after t u mid now r → Causes M before s u old now r
+causes_since M s t u before after old mid now behind slots layout wears (Ok x) causes = tt
+causes_since M s t u before after old mid now behind slots layout wears (Err why) causes =
+    λ honest. cause_behind s t u before after (M.now old) (M.now mid) (M.now now) (behind honest) slots layout (wears honest) why (causes honest)
+
+-- what a look-up has found shows it to the end of the call
+pub found_after : {D : Type 0} (M : Ghosts D) (s t u : State) (before : ℕ → Option (List ℕ)) (old mid now : D) → u.slots ≡ t.slots → u.layout ≡ t.layout → (M.honest now → M.honest mid) → (M.honest now → Wears (M.now mid) (M.now now)) → (key : Key)
+    (found : Option FoundEntry) (f : FoundEntry) → found ≡ Some f → IfSome found (λ x. x.entry.key ≡ key) → IfSome found (λ x. ShowsReached M before s t old mid (HasEntry x.entry)) → ShowsReached M before s u old now (HasKey key)
+found_after M s t u before old mid now slots layout back wears key found f is keyed shown =
+    let same : f.entry.key ≡ key = subst (λ (o : Option FoundEntry). IfSome o (λ x. x.entry.key ≡ key)) is keyed in
+    let here : ShowsReached M before s t old mid (HasEntry f.entry) = subst (λ (o : Option FoundEntry). IfSome o (λ x. ShowsReached M before s t old mid (HasEntry x.entry))) is shown in
+    λ honest. shows_after s t u (M.now old) (M.now mid) (M.now now) slots layout (wears honest) before (ReachesPage (HasEntry f.entry)) (ReachesPage (HasKey key)) (λ pages led. (led.0, led.1, record { entry = f.entry; there = led.2; of_key = same })) (here (back honest))
+
+-- what holds whatever is answered
+pub ok_so : {T : Type 0} {P : Type 0} (r : Result T Refusal) → P → OnOk r P
+ok_so (Ok x) so = so
+ok_so (Err why) so = tt
+
+pub ok_each : {T : Type 0} {P : Type 0} (r : Result T Refusal) → P → IfOk r (λ x. P)
+ok_each (Ok x) so = so
+ok_each (Err why) so = tt
+
+-- what holds of a change that was made holds behind the force
+pub ok_more : {T : Type 0} {P Q : Type 0} (r : Result T Refusal) → (P → Q) → OnOk r P → OnOk r Q
+ok_more (Ok x) more so = more so
+ok_more (Err why) more so = tt
+
+pub ok_each_more : {T : Type 0} {P Q : Type 0} (r : Result T Refusal) → (P → Q) → IfOk r (λ x. P) → IfOk r (λ x. Q)
+ok_each_more (Ok x) more so = more so
+ok_each_more (Err why) more so = tt
+
 pub causes_behind : {D T : Type 0} (M : Ghosts D) (s t u : State) (before after : ℕ → Option (List ℕ)) (old mid now : D) → (M.honest now → IsBehindForce s t before after (M.now mid)) → u.slots ≡ t.slots → u.layout ≡ t.layout → (M.honest now → Wears (M.now mid) (M.now now))
     → (r : Result T Refusal) → Causes M after t u mid now r → Causes M before s u old now r
-causes_behind M s t u before after old mid now behind slots layout wears (Ok x) causes = tt
-causes_behind M s t u before after old mid now behind slots layout wears (Err why) causes =
-    λ honest. cause_behind s t u before after (M.now old) (M.now mid) (M.now now) (behind honest) slots layout (wears honest) why (causes honest)
+causes_behind M s t u before after old mid now behind slots layout wears r causes =
+    causes_since M s t u before after old mid now (λ honest. forced_behind s t before after (M.now old) (M.now mid) (behind honest)) slots layout wears r causes
+
+-- what the pages that were read behind a force show was shown by what was there before it
+pub found_behind : {D : Type 0} (M : Ghosts D) (s t u : State) (before after : ℕ → Option (List ℕ)) (old mid now : D) → (M.honest now → IsBehindForce s t before after (M.now mid)) → u.slots ≡ t.slots → u.layout ≡ t.layout → (M.honest now → Wears (M.now mid) (M.now now))
+    → (Is : Visit → Type 0) → ShowsReached M after t u mid now Is → ShowsReached M before s u old now Is
+found_behind M s t u before after old mid now behind slots layout wears Is shows =
+    λ honest. shows_behind s t u before after (M.now old) (M.now mid) (M.now now) (forced_behind s t before after (M.now old) (M.now mid) (behind honest)) slots layout (wears honest) (ReachesPage Is) (ReachesPage Is) (λ pages is. is) (shows honest)
 
 -- ---- stages of a call
 
@@ -225,7 +294,7 @@ module _ (v mid new : VolumeValue) (need : ℕ) (e : Entry) (has : HasStored nee
 
 -- ---- what is tested comes to none of them, and an edit leaves the log
 
-pub delete_causes : {D : Type 0} (M : Ghosts D) (s : State) (held : ℕ → Option (List ℕ)) (m : D) (r : Result (Unit {0}) Refusal) (why : Refusal) → IsErrAnd r (λ told. told ≡ why) → Comes (delete_tests s) why → Causes M held s s m m r
+pub delete_causes : {D T : Type 0} (M : Ghosts D) (s : State) (held : ℕ → Option (List ℕ)) (m : D) (r : Result T Refusal) (why : Refusal) → IsErrAnd r (λ told. told ≡ why) → Comes (delete_tests s) why → Causes M held s s m m r
 delete_causes M s held m r why told comes =
     handed_cause M held s s m m why r told (λ honest. delete_tested (HasCallCause s s held (M.now m) (M.now m)) s (λ place down. tt) tt why comes)
 

@@ -46,10 +46,10 @@ use Rattle.volume_laws.proofs.TableLaws.{is_tree, not_spare, pages_read, unbroke
 
 -- ---- where nothing is changed
 
--- the definitions refuse, since there is no such version
-pub answered_none : (outcome : Met → Outcome) (k : Known) (u : VolumeValue) (now : Moment) → length k.mounted.dirty ≤ 56
-    → outcome (record { forces = false; reached = 0; damaged = None; found = []; healed = 0 }) ≡ (Refused Why.NoSuch, volume_of k) → Stands state IsMemoryOf u k now → AnswersAndStands state IsMemoryOf outcome (Refused Why.NoSuch) [] k u now
-answered_none outcome k u now few is there = (
+-- the definitions refuse
+pub answered_so : (why : Refusal) (outcome : Met → Outcome) (k : Known) (u : VolumeValue) (now : Moment) → length k.mounted.dirty ≤ 56
+    → outcome (record { forces = false; reached = 0; damaged = None; found = []; healed = 0 }) ≡ (Refused why, volume_of k) → Stands state IsMemoryOf u k now → AnswersAndStands state IsMemoryOf outcome (Refused why) [] k u now
+answered_so why outcome k u now few is there = (
   k,
   record {
     met = record { forces = false; reached = 0; damaged = None; found = []; healed = 0 };
@@ -61,6 +61,11 @@ answered_none outcome k u now few is there = (
   },
   there,
 )
+
+-- since there is no such version
+pub answered_none : (outcome : Met → Outcome) (k : Known) (u : VolumeValue) (now : Moment) → length k.mounted.dirty ≤ 56
+    → outcome (record { forces = false; reached = 0; damaged = None; found = []; healed = 0 }) ≡ (Refused Why.NoSuch, volume_of k) → Stands state IsMemoryOf u k now → AnswersAndStands state IsMemoryOf outcome (Refused Why.NoSuch) [] k u now
+answered_none = answered_so Why.NoSuch
 
 pub keep_none : (k : Known) (u : VolumeValue) (now : Moment) (name : List ℕ) (keep : ℕ) → keep ≤ 999 → length k.mounted.dirty ≤ 56 → highest_entry name (volume_of k).entries ≡ None → Stands state IsMemoryOf u k now
     → AnswersAndStands state IsMemoryOf (λ met. keep_outcome met (volume_of k) name keep) (Refused Why.NoSuch) [] k u now

@@ -75,7 +75,7 @@ found_some key [] e is = absurd (cc is)
 found_some key (x ∷ es) e is = omega arith
 
 -- where some page is dirty
-some_wait : (none : Bool) (dirty : List ℕ) → (dirty ≡ [] → ⊥) → none ≡ (length dirty == 0) → not none ≡ true
+pub some_wait : (none : Bool) (dirty : List ℕ) → (dirty ≡ [] → ⊥) → none ≡ (length dirty == 0) → not none ≡ true
 some_wait none [] wet is = absurd (wet refl)
 some_wait none (page ∷ dirty) wet is = ap not (is ∙ ne_eqb (suc (length dirty)) 0 (λ e. absurd (omega arith)))
 

@@ -40,7 +40,7 @@ none_waits none dirty is dry = ap not (is ∙ ap (λ (d : List ℕ). length d ==
 
 module _ (v w : VolumeValue) (is : v ≡ w) where
   -- as many name pages are told as free as have a flag
-  free_told : length (state w).free_pages ≡ count_by (λ spare. spare) v.free_pages
+  pub free_told : length (state w).free_pages ≡ count_by (λ spare. spare) v.free_pages
   free_told = ap (λ (x : VolumeValue). length (state x).free_pages) (sym is) ∙ count_of_flags v.free_pages
 
   -- each page that is dirty waits

@@ -29,8 +29,7 @@ use Rattle.fsd_files.specs.Files.{Change, Files, gone_keys, new_key}
 use Rattle.fsd_files.specs.Kept.{Lists}
 use Rattle.fsd_files.specs.Volume.{Volume, entries_at, entries_without, is_free, is_in}
 use Rattle.fsd_files.specs.Waiting.{Changes}
-use Rattle.fsd_files.proofs.ChangeLaws.{IsAbsent}
-use Rattle.fsd_files.proofs.FreshLaws.{new_key_is_new}
+use Rattle.fsd_files.proofs.FreshLaws.{IsAbsent, new_key_is_new}
 use Rattle.fsd_files.proofs.HistoryLaws.{after_in_order}
 use Rattle.fsd_files.proofs.WaitLaws.{open_taken}
 use Rattle.page_cache.specs.Cache.{CacheValue, IsCache, is_among}

@@ -1,5 +1,5 @@
 -- What is free and what waits in a volume with one version more, and how many versions there are then.
-use Rattle.std.proofs.Common.{◌≡◌, inl, inr, ℕ, ◌+◌, ◌<◌, ◌≤◌, Bool, true, false, cond, not, ◌&&◌, ◌||◌, List, [], ◌∷◌, length, Option, Some, Ordering, refl, sym, ap, ◌∙◌, arith}
+use Rattle.std.proofs.Common.{◌≡◌, inl, inr, ℕ, ◌+◌, ◌<◌, ◌≤◌, Bool, true, false, cond, not, ◌&&◌, ◌||◌, List, [], ◌∷◌, ◌++◌, length, Option, Some, Ordering, refl, sym, ap, subst, ◌∙◌, arith}
 use Rattle.std.specs.Prelude.{IsTrue, nat_le, nat_lt, ◌==◌}
 use Rattle.std.specs.List.{flat_map, list_any}
 use Rattle.std.specs.declared.cmp.Ordering.TheVariants.{Less, Equal, Greater}
@@ -25,8 +25,8 @@ use Rattle.fsd_files.specs.Files.{gone_keys}
 use Rattle.fsd_files.specs.Kept.{Lists}
 use Rattle.fsd_files.specs.Volume.{Volume, entries_at, entries_without, in_version, is_free, is_in, plans_of}
 use Rattle.fsd_files.specs.Waiting.{Changes, is_kept_alone}
-use Rattle.fsd_files.proofs.ChangeLaws.{IsAbsent, same_key_turned}
-use Rattle.fsd_files.proofs.ListingLaws.{lists_length}
+use Rattle.fsd_files.proofs.FreshLaws.{IsAbsent}
+use Rattle.fsd_files.proofs.ListingLaws.{lists_length, same_key_turned}
 use Rattle.fsd_table.proofs.KeyLaws.{keys_total}
 use Rattle.version_table.specs.declared.oldest.Leaving.{Leaving}
 use Rattle.version_table.specs.Met.{entries_left}
@@ -116,6 +116,32 @@ gone_at a (g ∷ gs) s low high =
 gone_outside : (a : Area) (gs : List Leaving) (s : ℕ) → (a.from ≤ s → s < a.to → ⊥) → contains a.sectors s ≡ false → contains (with_gone a gs).sectors s ≡ false
 gone_outside a [] s out none = none
 gone_outside a (g ∷ gs) s out none = gone_outside (together a g.entry.runs) gs s out (contains_where_outside (λ t. contains a.sectors t || contains (sectors_of g.entry.runs) t) a.from a.to s out)
+
+-- with those of versions that go, where no other sector waits
+module _ (v w : Volume) (out : List Key) (same : w.layout ≡ v.layout) (removed : w.removed ≡ v.removed ++ gone_sectors out v.entries) (changes : Changes v w) where
+  pub gone_wait : (l : Layout) (old : Area) (gs : List Leaving) → v.layout ≡ l → IsOfData l old → entries_left gs ≡ entries_at out v.entries
+      → ((s : ℕ) → contains old.sectors s ≡ contains v.removed s) → (s : ℕ) → contains (with_gone old gs).sectors s ≡ contains w.removed s
+  gone_wait l old gs layout of_data left before s =
+      elim (cases_lt s (data_start l)) [
+        | inl low ↦ outside (λ from to. absurd (omega (arith, low, from)))
+        | inr from ↦ elim (cases_lt s l.sectors) [
+          | inr high ↦ outside (λ low to. absurd (omega (arith, high, to)))
+          | inl to ↦
+              gone_at old gs s (omega (arith, from, ap (λ (m : Area). m.from) of_data)) (omega (arith, to, ap (λ (m : Area). m.to) of_data))
+              ∙ (λ i. before s i || is_in (plans_of (left i)) s) ∙ sym (ap (λ (xs : List ℕ). contains xs s) removed ∙ list_any-append (λ t. t == s) v.removed (gone_sectors out v.entries))
+        ]
+      ]
+    where
+      outside : (data_start l ≤ s → s < l.sectors → ⊥) → contains (with_gone old gs).sectors s ≡ contains w.removed s
+      outside far =
+          let beyond : contains w.removed s ≡ false = false_from_ne_true (contains w.removed s) (λ there.
+          let area = and_parts (nat_le (data_start v.layout) s) (nat_lt s v.layout.sectors) (in_area there) in
+          far (omega (arith, leb-true (data_start v.layout) s area.0, ap data_start layout)) (omega (arith, ltb-true s v.layout.sectors area.1, ap (λ (x : Layout). x.sectors) layout))) in
+          let none : contains old.sectors s ≡ false = ap (λ (m : Area). contains m.sectors s) of_data ∙ contains_where_outside (contains old.sectors) (data_start l) l.sectors s far in
+          gone_outside old gs s (λ low high. far (omega (arith, low, ap (λ (m : Area). m.from) of_data)) (omega (arith, high, ap (λ (m : Area). m.to) of_data))) none ∙ sym beyond
+        where
+          in_area : IsTrue (contains w.removed s) → IsTrue (is_data v.layout s)
+          in_area there = subst (λ (x : Layout). IsTrue (is_data x s)) same (changes.spaced.area s (or_left (contains w.removed s) (is_in w.held s) there))
 
 -- ---- the volume
 
@@ -208,24 +234,4 @@ module _ (v : Volume) (name bytes : List ℕ) (given : Option ℕ) (runs : List 
   -- the sectors that wait then
   pub made_waits : (l : Layout) (old : Area) (gs : List Leaving) → Changes v made → v.layout ≡ l → IsOfData l old → entries_left gs ≡ entries_at out v.entries
       → ((s : ℕ) → contains old.sectors s ≡ contains v.removed s) → (s : ℕ) → contains (with_gone old gs).sectors s ≡ contains made.removed s
-  made_waits l old gs changes layout of_data left before s =
-      elim (cases_lt s (data_start l)) [
-        | inl low ↦ outside (λ from to. absurd (omega (arith, low, from)))
-        | inr from ↦ elim (cases_lt s l.sectors) [
-          | inr high ↦ outside (λ low to. absurd (omega (arith, high, to)))
-          | inl to ↦
-              gone_at old gs s (omega (arith, from, ap (λ (m : Area). m.from) of_data)) (omega (arith, to, ap (λ (m : Area). m.to) of_data))
-              ∙ (λ i. before s i || is_in (plans_of (left i)) s) ∙ sym (list_any-append (λ t. t == s) v.removed (gone_sectors out v.entries))
-        ]
-      ]
-    where
-      outside : (data_start l ≤ s → s < l.sectors → ⊥) → contains (with_gone old gs).sectors s ≡ contains made.removed s
-      outside far =
-          let beyond : contains made.removed s ≡ false = false_from_ne_true (contains made.removed s) (λ there.
-          let area = and_parts (nat_le (data_start v.layout) s) (nat_lt s v.layout.sectors) (in_area there) in
-          far (omega (arith, leb-true (data_start v.layout) s area.0, ap data_start layout)) (omega (arith, ltb-true s v.layout.sectors area.1, ap (λ (x : Layout). x.sectors) layout))) in
-          let none : contains old.sectors s ≡ false = ap (λ (m : Area). contains m.sectors s) of_data ∙ contains_where_outside (contains old.sectors) (data_start l) l.sectors s far in
-          gone_outside old gs s (λ low high. far (omega (arith, low, ap (λ (m : Area). m.from) of_data)) (omega (arith, high, ap (λ (m : Area). m.to) of_data))) none ∙ sym beyond
-        where
-          in_area : IsTrue (contains made.removed s) → IsTrue (is_data v.layout s)
-          in_area there = changes.spaced.area s (or_left (contains made.removed s) (is_in made.held s) there)
+  made_waits l old gs changes layout of_data left before s = gone_wait v made out refl refl changes l old gs layout of_data left before s

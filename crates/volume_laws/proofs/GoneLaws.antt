@@ -82,7 +82,7 @@ kept_unless v name keep r b = (cond b (refused v (KeepTooLarge keep)) (keep_set 
 
 module _ (hurt : Sectors) (i : Image) (v : Volume) (r : ℕ) (e : Entry) (spaced : IsSpaced v) (described : Describes v.layout hurt i v.files v.entries) where
   -- the versions of a volume are apart
-  alone : (w : Volume) → Changes v w → Apart v.layout (plans_of w.entries)
+  pub alone : (w : Volume) → Changes v w → Apart v.layout (plans_of w.entries)
   alone w changes = subst (λ (l : Layout). Apart l (plans_of w.entries)) changes.layout (apart_front w.layout (plans_of w.entries) w.drafts changes.spaced.apart)
 
   abbrev met : Met
@@ -150,24 +150,18 @@ split_in p s (z ∷ entries) = both z entries ∙ by (p z) (split_in p s entries
     by true rest = front (contains (sectors_of z.runs) s) (is_in (plans_of entries) s) (is_in (plans_of stay) s) (is_in (plans_of go) s) rest ∙ ap (λ (x : Bool). is_in (plans_of stay) s || x) (sym (both z go))
     by false rest = back (contains (sectors_of z.runs) s) (is_in (plans_of entries) s) (is_in (plans_of stay) s) (is_in (plans_of go) s) rest ∙ ap (λ (x : Bool). x || is_in (plans_of go) s) (sym (both z stay))
 
-module _ (v : Volume) (key : Key) (r : ℕ) (e : Entry) (spaced : IsSpaced v) where
-  abbrev without_it : Volume
-  without_it = (deleted v key r (Some e)).1
+-- versions that go wait: nothing more is free, and what a reader alone keeps stays so
+module _ (v w : Volume) (gone : List ℕ) (layout : w.layout ≡ v.layout) (held : w.held ≡ v.held) (drafts : w.drafts ≡ v.drafts) (removed : w.removed ≡ v.removed ++ gone)
+    (split : (s : ℕ) → in_version v s ≡ (in_version w s || contains gone s)) where
+  went : (s : ℕ) → contains w.removed s ≡ (contains v.removed s || contains gone s)
+  went s = ap (λ (xs : List ℕ). contains xs s) removed ∙ list_any-append (λ t. t == s) v.removed gone
 
-  -- what went waits: nothing more is free
-  pub deleted_free : (s : ℕ) → is_free without_it s ≡ is_free v s
-  deleted_free s =
-      let a : Bool = is_data v.layout s in
-      let c : Bool = in_version without_it s in
-      let d : Bool = contains v.removed s in
-      let g : Bool = contains (gone_sectors (key ∷ []) v.entries) s in
-      let h : Bool = is_in v.held s in
-      let o : Bool = is_in v.drafts s in
-      let split : in_version v s ≡ (c || g) = split_in (λ x. list_any (same_key x.key) (key ∷ [])) s v.entries in
-      let went : contains without_it.removed s ≡ (d || g) = list_any-append (λ t. t == s) v.removed (gone_sectors (key ∷ []) v.entries) in
-      ap (λ (w : Bool). a && not c && not (not c && (w || h || o))) went
-      ∙ same a c d g h o
-      ∙ ap (λ (b : Bool). a && not b && not (not b && (d || h || o))) (sym split)
+  pub left_free : (s : ℕ) → is_free w s ≡ is_free v s
+  left_free s =
+      let c : Bool = in_version w s in
+      (λ i. is_data (layout i) s && not c && not (not c && (went s i || is_in (held i) s || is_in (drafts i) s)))
+      ∙ same (is_data v.layout s) c (contains v.removed s) (contains gone s) (is_in v.held s) (is_in v.drafts s)
+      ∙ ap (λ (b : Bool). is_data v.layout s && not b && not (not b && (contains v.removed s || is_in v.held s || is_in v.drafts s))) (sym (split s))
     where
       same : (a c d g h o : Bool) → (a && not c && not (not c && ((d || g) || h || o))) ≡ (a && not (c || g) && not (not (c || g) && (d || h || o)))
       same false c d g h o = refl
@@ -177,16 +171,10 @@ module _ (v : Volume) (key : Key) (r : ℕ) (e : Entry) (spaced : IsSpaced v) wh
       same true false true false h o = refl
       same true false false false h o = refl
 
-  -- what a reader alone keeps stays so: what went waits for the force first
-  pub deleted_kept : (s : ℕ) → is_kept_alone without_it s ≡ is_kept_alone v s
-  deleted_kept s =
-      let c : Bool = in_version without_it s in
-      let d : Bool = contains v.removed s in
-      let g : Bool = contains (gone_sectors (key ∷ []) v.entries) s in
-      let h : Bool = is_in v.held s in
-      let split : in_version v s ≡ (c || g) = split_in (λ x. list_any (same_key x.key) (key ∷ [])) s v.entries in
-      let went : contains without_it.removed s ≡ (d || g) = list_any-append (λ t. t == s) v.removed (gone_sectors (key ∷ []) v.entries) in
-      ap (λ (w : Bool). h && not c && not w) went ∙ same h c d g ∙ ap (λ (b : Bool). h && not b && not d) (sym split)
+  pub left_kept : (s : ℕ) → is_kept_alone w s ≡ is_kept_alone v s
+  left_kept s =
+      let c : Bool = in_version w s in
+      (λ i. is_in (held i) s && not c && not (went s i)) ∙ same (is_in v.held s) c (contains v.removed s) (contains gone s) ∙ ap (λ (b : Bool). is_in v.held s && not b && not (contains v.removed s)) (sym (split s))
     where
       same : (h c d g : Bool) → (h && not c && not (d || g)) ≡ (h && not (c || g) && not d)
       same false c d g = refl
@@ -195,6 +183,19 @@ module _ (v : Volume) (key : Key) (r : ℕ) (e : Entry) (spaced : IsSpaced v) wh
       same true false true false = refl
       same true false false true = refl
       same true false false false = refl
+
+module _ (v : Volume) (key : Key) (r : ℕ) (e : Entry) (spaced : IsSpaced v) where
+  abbrev without_it : Volume
+  without_it = (deleted v key r (Some e)).1
+
+  split : (s : ℕ) → in_version v s ≡ (in_version without_it s || contains (gone_sectors (key ∷ []) v.entries) s)
+  split s = split_in (λ x. list_any (same_key x.key) (key ∷ [])) s v.entries
+
+  pub deleted_free : (s : ℕ) → is_free without_it s ≡ is_free v s
+  deleted_free = left_free v without_it (gone_sectors (key ∷ []) v.entries) refl refl refl refl split
+
+  pub deleted_kept : (s : ℕ) → is_kept_alone without_it s ≡ is_kept_alone v s
+  deleted_kept = left_kept v without_it (gone_sectors (key ∷ []) v.entries) refl refl refl refl split
 
   -- the sectors that wait then
   pub deleted_waits : (l : Layout) (old : Area) → v.layout ≡ l → IsOfData l old → entries_at (key ∷ []) v.entries ≡ e ∷ [] → ((s : ℕ) → contains old.sectors s ≡ contains v.removed s)

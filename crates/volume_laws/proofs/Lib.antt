@@ -49,6 +49,10 @@ pub mod MakingLaws
 pub mod MemoryLaws
 pub mod MetCauses
 pub mod MomentLaws
+pub mod MoveCalls
+pub mod MoveEnds
+pub mod MovedLaws
+pub mod MovedSpace
 pub mod NewVersionLaws
 pub mod NextLaws
 pub mod NoPlaceLaws

@@ -81,17 +81,12 @@ gone_once map w removed seen (g ∷ gone) s were turn there = gone_once map w (t
 abbrev pub with_if : Bool → Area → List Leaving → Area
 with_if b removed gone = cond b (with_gone removed gone) removed
 
-module _ (v : VolumeValue) (whole : IsWholeVolume v) (c : CacheValue) (flags : List Bool) (edited : IsWholeVolume (record v { cache = c; free_pages = flags })) (runs : List Run) (gone : List Leaving) (turn : AreInTurn v.map v.shadow [] gone)
-    (b : Bool) (dry : c.dirty ≡ [] → b ≡ false) (free : Area) (w : Waits) (versions : ℕ) (taken : free ≡ without_sectors v.map runs) (removed : w.removed ≡ with_if b v.shadow.removed gone)
-    (kept : w.kept ≡ v.shadow.kept) (unfinished : w.unfinished ≡ v.shadow.unfinished) (held : w.held ≡ v.shadow.held) where
+module _ (v : VolumeValue) (whole : IsWholeVolume v) (c : CacheValue) (flags : List Bool) (edited : IsWholeVolume (record v { cache = c; free_pages = flags })) (gone : List Leaving) (turn : AreInTurn v.map v.shadow [] gone)
+    (b : Bool) (dry : c.dirty ≡ [] → b ≡ false) (free : Area) (of_free : IsOfData v.layout free) (was_free : (s : ℕ) → contains free.sectors s ≡ true → contains v.map.sectors s ≡ true) (w : Waits) (versions : ℕ)
+    (removed : w.removed ≡ with_if b v.shadow.removed gone) (kept : w.kept ≡ v.shadow.kept) (unfinished : w.unfinished ≡ v.shadow.unfinished) (held : w.held ≡ v.shadow.held) where
   of_removed : (x : Bool) → IsOfData v.layout (with_if x v.shadow.removed gone)
   of_removed true = of_gone v.layout v.shadow.removed gone whole.removed
   of_removed false = whole.removed
-
-  -- a free sector was free
-  was_free : (s : ℕ) → contains free.sectors s ≡ true → contains v.map.sectors s ≡ true
-  was_free s is = (and_parts (contains v.map.sectors s) (not (contains (sectors_of runs) s))
-      (free_passes v.map.from v.map.to (λ t. contains v.map.sectors t && not (contains (sectors_of runs) t)) s (ap (λ (m : Area). contains m.sectors s) (sym taken) ∙ is))).0
 
   apart : (s : ℕ) → contains free.sectors s ≡ true → waits_in w s ≡ false
   apart s is =
@@ -121,11 +116,11 @@ module _ (v : VolumeValue) (whole : IsWholeVolume v) (c : CacheValue) (flags : L
       by false s there = whole.once.removed s there
       by true s there = gone_once v.map v.shadow v.shadow.removed [] gone s (whole.once.removed s) turn there
 
-  -- it is whole once the version's sectors are taken, and what goes waits
-  pub whole_entered : IsWholeVolume (record v { map = free; shadow = w; cache = c; free_pages = flags; versions = versions })
-  whole_entered = record {
+  -- it is whole once what goes waits
+  pub whole_going : IsWholeVolume (record v { map = free; shadow = w; cache = c; free_pages = flags; versions = versions })
+  whole_going = record {
     planned = whole.planned;
-    map = subst (IsOfData v.layout) (sym taken) (of_test v.layout v.map (λ s. contains v.map.sectors s && not (contains (sectors_of runs) s)) whole.map);
+    map = of_free;
     removed = subst (IsOfData v.layout) (sym removed) (of_removed b);
     kept = subst (IsOfData v.layout) (sym kept) whole.kept;
     unfinished = subst (IsOfData v.layout) (sym unfinished) whole.unfinished;
@@ -140,3 +135,17 @@ module _ (v : VolumeValue) (whole : IsWholeVolume v) (c : CacheValue) (flags : L
     numbered = edited.numbered;
     still = λ none. ap (λ (m : Area). m.sectors) removed ∙ ap (λ (x : Bool). (with_if x v.shadow.removed gone).sectors) (dry none) ∙ edited.still none;
   }
+
+module _ (v : VolumeValue) (whole : IsWholeVolume v) (c : CacheValue) (flags : List Bool) (edited : IsWholeVolume (record v { cache = c; free_pages = flags })) (runs : List Run) (gone : List Leaving) (turn : AreInTurn v.map v.shadow [] gone)
+    (b : Bool) (dry : c.dirty ≡ [] → b ≡ false) (free : Area) (w : Waits) (versions : ℕ) (taken : free ≡ without_sectors v.map runs) (removed : w.removed ≡ with_if b v.shadow.removed gone)
+    (kept : w.kept ≡ v.shadow.kept) (unfinished : w.unfinished ≡ v.shadow.unfinished) (held : w.held ≡ v.shadow.held) where
+  -- a free sector was free
+  was_free : (s : ℕ) → contains free.sectors s ≡ true → contains v.map.sectors s ≡ true
+  was_free s is = (and_parts (contains v.map.sectors s) (not (contains (sectors_of runs) s))
+      (free_passes v.map.from v.map.to (λ t. contains v.map.sectors t && not (contains (sectors_of runs) t)) s (ap (λ (m : Area). contains m.sectors s) (sym taken) ∙ is))).0
+
+  -- it is whole once the version's sectors are taken, and what goes waits
+  pub whole_entered : IsWholeVolume (record v { map = free; shadow = w; cache = c; free_pages = flags; versions = versions })
+  whole_entered =
+      whole_going v whole c flags edited gone turn b dry free (subst (IsOfData v.layout) (sym taken) (of_test v.layout v.map (λ s. contains v.map.sectors s && not (contains (sectors_of runs) s)) whole.map)) was_free
+      w versions removed kept unfinished held

@@ -27,7 +27,7 @@ use Rattle.fsd_files.specs.Files.{File, Files}
 use Rattle.fsd_files.specs.Kept.{FirstDamaged, IsWhole as IsSectorWhole, Kept, KeptIn, Lists, data_sectors, range_sectors}
 use Rattle.fsd_files.specs.declared.reply.Reply.{Reply}
 use Rattle.fsd_files.specs.declared.reply.Reply.TheVariants.{Found, Refused}
-use Rattle.fsd_files.proofs.ChangeLaws.{same_key_turned}
+use Rattle.fsd_files.proofs.ListingLaws.{same_key_turned}
 use Rattle.fsd_files.proofs.KeptLaws.{back_there, behind_there, front_there}
 use Rattle.version_data.specs.declared.fault.DataFault.{DataFault}
 use Rattle.version_data.specs.declared.fault.DataFault.TheVariants.{Device, Damaged}

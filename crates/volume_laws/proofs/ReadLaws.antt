@@ -29,6 +29,7 @@ use Rattle.table_pages.specs.Reads.{StoodWhole}
 use Rattle.volume_contract.specs.Causes.{BreaksMounted, HaveRead, IsRead, ShowsOfPages, ShowsBreak, StandsInCopy, StoodInCopy}
 use Rattle.volume_contract.specs.State.{State}
 use Rattle.cached_table.specs.Looking.{Had, HaveOthers, HavePages, LeadsTo, LooksOnly, ShowsFault, ShowsPlace, refusal_in, told_from}
+use Rattle.volume_laws.specs.Behind.{IsBehind}
 use Rattle.volume_laws.specs.Meeting.{ShowsEntry}
 use Rattle.volume_laws.specs.State.{resident, spare_pages, state}
 use Rattle.volume_laws.specs.Taken.{are_taken}
@@ -201,6 +202,21 @@ unsound_by M m m' v w is whole c log of_log new home first r result told_is look
     subst (λ (x : VolumeValue). ShowsBreak (state x) new (resident x) (M.now m) (M.now m') place) is
     (unsound_found M m m' v whole c (outer_told r) (subst (λ (l : LogValue). LooksOnly M by_log.ghosts l (outer_told r) m m' v.cache c v.free_pages) of_log looks) honest new home first r place (sym told_is ∙ told_so)
     (subst (λ (l : LogValue). IfErr r (ShowsFault M by_log.ghosts l m m' v.cache c v.free_pages home)) of_log shown))
+
+-- what is in memory behind a look-up was there before, or stood in a copy
+pub looked_behind : {D : Type 0} (M : MachineGhosts D) (m m' : D) (v w : VolumeValue) → v ≡ w → IsWholeVolume v → (c : CacheValue) (free : List Bool) → free ≡ v.free_pages → (log : LogValue) → log ≡ v.log → (refusal : Option Refusal)
+    → LooksOnly M by_log.ghosts log refusal m m' v.cache c v.free_pages → M.honest m'
+    → IsBehind (state w) (state (record v { cache = c; free_pages = free })) (resident w) (resident (record v { cache = c; free_pages = free })) (M.now m) (M.now m')
+looked_behind M m m' v w is whole c free same log of_log refusal looks honest =
+    let left : VolumeValue = record v { cache = c; free_pages = free } in
+    let here = subst (λ (l : LogValue). LooksOnly M by_log.ghosts l refusal m m' v.cache c v.free_pages) of_log looks in
+    subst (λ (x : VolumeValue). IsBehind (state x) (state left) (resident x) (resident left) (M.now m) (M.now m')) is
+    (record {
+      layout = refl;
+      free_pages = ap (λ (flags : List Bool). spare_pages (record v { free_pages = flags })) same;
+      pages = λ page bytes lt there. (is_read M m m' v whole c refusal here honest (state left) page bytes lt there).source;
+      untaken = λ e untaken. untaken;
+    })
 
 -- an entry that is met, and whose sectors aren't taken
 pub untaken_by : (v w : VolumeValue) → v ≡ w → IsWholeVolume v → (before now : Moment) (new : State) (f : FoundEntry) → ShowsEntry (state w) new (resident w) before now f → are_taken w f.entry.runs ≡ false

@@ -1,13 +1,15 @@
 -- What a call that changes a version tells where a test refuses it.
 use Rattle.std.proofs.Common.{◌≡◌, inl, inr, ℕ, Bool, true, false, cond, nat_lt, List, [], ◌∷◌, Option, Some, None, Err, refl, sym, ap, subst, ◌∙◌, if◌then◌else◌}
 use Rattle.std.specs.Prelude.{option_map}
+use Rattle.std.specs.FinMap.{find}
 use Rattle.std.proofs.lemmas.List.{append-nil}
 use Rattle.fsd_bytes.specs.declared.refusal.Refusal.{Refusal}
 use Rattle.fsd_bytes.specs.declared.refusal.Refusal.TheVariants as Why
+use Rattle.fsd_bytes.specs.Keys.{key_cmp}
 use Rattle.fsd_bytes.specs.declared.key.Key.{Key}
 use Rattle.fsd_formats.specs.NamePage.{max_keep, max_length}
 use Rattle.sector_disk.specs.Machine.{Moment}
-use Rattle.fsd_files.specs.Answers.{Met, Outcome, delete_outcome, deleted, entry_of, highest_entry, keep_given, keep_outcome, keep_set, refused}
+use Rattle.fsd_files.specs.Answers.{Met, Outcome, delete_outcome, deleted, entry_of, highest_entry, keep_given, keep_outcome, keep_set, move_outcome, moved, refused}
 use Rattle.fsd_files.specs.Files.{Change}
 use Rattle.fsd_files.specs.declared.reply.Reply.{Reply}
 use Rattle.fsd_files.specs.Volume.{Volume, forced_if}
@@ -76,6 +78,10 @@ put_places s keep len why comes = put_tested (λ (x : Refusal). device_of x ≡ 
 pub put_test_cause : (s : State) (keep : Option ℕ) (len : ℕ) (resident : ℕ → Option (List ℕ)) (before now : Moment) (why : Refusal) → Comes (test_steps s keep len) why → HasCallCause s s resident before now why
 put_test_cause s keep len resident before now why comes = put_tested (λ (x : Refusal). HasCallCause s s resident before now x) s keep len (λ place. tt) tt tt tt why comes
 
+-- nor that there is no such version
+pub delete_test_some : (s : State) (why : Refusal) → Comes (delete_tests s) why → why ≡ Why.NoSuch → ⊥
+delete_test_some s why comes = delete_tested (λ (x : Refusal). x ≡ Why.NoSuch → ⊥) s (λ place is same. cc same) (λ same. cc same) why comes
+
 -- ---- where it stands
 
 never_down : (v : VolumeValue) (k : Known) (now : Moment) → Stands state IsMemoryOf v k now → (place : ℕ) → (state v).down ≡ Some place → ⊥
@@ -117,6 +123,11 @@ keep_through name keep v small met b w none is =
 pub delete_through : (key : Key) (v : Volume) (met : Met) (b : Bool) (w : Volume) → met.forces ≡ false → w ≡ forced_if b v → delete_outcome met w key ≡ delete_outcome (record met { forces = b }) v key
 delete_through key v met b w none is =
     ap (λ (f : Bool). deleted (forced_if f w) key met.reached (entry_of key (forced_if f w).entries)) none ∙ ap (λ (x : Volume). deleted x key met.reached (entry_of key x.entries)) is
+
+pub move_through : (key : Key) (name : List ℕ) (v : Volume) (met : Met) (b : Bool) (w : Volume) → met.forces ≡ false → w ≡ forced_if b v → move_outcome met w key name ≡ move_outcome (record met { forces = b }) v key name
+move_through key name v met b w none is =
+    ap (λ (f : Bool). moved (forced_if f w) key name met.reached (find key_cmp key (forced_if f w).files) (entry_of key (forced_if f w).entries)) none
+    ∙ ap (λ (x : Volume). moved x key name met.reached (find key_cmp key x.files) (entry_of key x.entries)) is
 
 -- a keep that passed its test is small enough
 pub keep_fits : (keep : ℕ) → cond (nat_lt max_keep keep) (Some (Why.KeepTooLarge keep)) None ≡ None → nat_lt max_keep keep ≡ false

@@ -5,10 +5,10 @@ use Rattle.fsd_bytes.specs.declared.key.Key.{Key}
 use Rattle.fsd_bytes.specs.declared.refusal.Refusal.{Refusal}
 use Rattle.fsd_bytes.specs.declared.refusal.Refusal.TheVariants as Why
 use Rattle.sector_disk.specs.Machine.{Moment}
-use Rattle.fsd_files.specs.Answers.{Met, Outcome}
+use Rattle.fsd_files.specs.Answers.{Met, Outcome, move_outcome}
 use Rattle.fsd_files.specs.Files.{Change}
 use Rattle.fsd_files.specs.declared.reply.Reply.{Reply}
-use Rattle.fsd_files.specs.declared.reply.Reply.TheVariants.{Refused}
+use Rattle.fsd_files.specs.declared.reply.Reply.TheVariants.{Moved, Refused}
 use Rattle.run_table.specs.declared.run.Run.{Run}
 use Rattle.sector_set.specs.Area.{together}
 use Rattle.shadow_frees.specs.Waits.{Waits}
@@ -18,8 +18,8 @@ use Rattle.name_btree.specs.declared.fault.TreeFault.TheVariants.{Pages, Broken}
 use Rattle.version_table.specs.declared.fault.VersionFault.{VersionFault}
 use Rattle.version_table.specs.declared.fault.VersionFault.TheVariants.{Table, NoSuch, VersionsUsedUp}
 use Rattle.volume_contract.specs.Ends.{AnswersAndStands}
-use Rattle.volume_contract.specs.Order.{Asks, Fetch, LookUp, CallStep, down, keep_size, worn}
-use Rattle.volume_contract.specs.State.{Known, Stands, State}
+use Rattle.volume_contract.specs.Order.{Asks, Fetch, LookUp, CallStep, down, keep_size, table_full, worn}
+use Rattle.volume_contract.specs.State.{Known, Stands, State, volume_of}
 use Rattle.volume_laws.specs.State.{IsMemoryOf, state}
 use Rattle.volume_laws.specs.Volume.{VolumeValue}
 
@@ -48,7 +48,11 @@ look_steps = LookUp ∷ Asks Why.NoSuch ∷ []
 abbrev pub edit_steps : List CallStep
 edit_steps = Fetch ∷ Asks Why.NoSuch ∷ []
 
--- the tests of a call that sets a keep, and of one that takes a version out, before a force
+-- the steps of a move from its look-up on
+abbrev pub moving_steps : State → List CallStep
+moving_steps s = LookUp ∷ Asks Why.NoSuch ∷ Asks Why.VersionsUsedUp ∷ table_full s ∷ Fetch ∷ []
+
+-- the tests of a call that sets a keep, and of one that takes a version out or moves it, before a force
 abbrev pub keep_tests : State → ℕ → List CallStep
 keep_tests s keep = down s ∷ keep_size s keep ∷ worn s ∷ []
 
@@ -85,4 +89,10 @@ EndsEdit outcome says change k new now (Ok x) = AnswersAndStands state IsMemoryO
 EndsEdit outcome says change k new now (Err (Why.Device s)) = Stands state IsMemoryOf new k now
 EndsEdit outcome says change k new now (Err Why.Memory) = Stands state IsMemoryOf new k now
 EndsEdit outcome says change k new now (Err Why.NoSuch) = AnswersAndStands state IsMemoryOf outcome (Refused Why.NoSuch) [] k new now
+EndsEdit outcome says change k new now (Err Why.VersionsUsedUp) = AnswersAndStands state IsMemoryOf outcome (Refused Why.VersionsUsedUp) [] k new now
+EndsEdit outcome says change k new now (Err (Why.NameTableFull n)) = AnswersAndStands state IsMemoryOf outcome (Refused (Why.NameTableFull n)) [] k new now
 EndsEdit outcome says change k new now (Err other) = ⊥
+
+-- so it is of a version that moves to a name
+abbrev pub EndsMove : Key → (name : List ℕ) → Known → VolumeValue → Moment → Result Key Refusal → Type 0
+EndsMove key name k new now result = EndsEdit (λ met. move_outcome met (volume_of k) key name) (Moved key) (Change.Move key name) k new now result

@@ -1,3 +1,4 @@
+pub mod Behind
 pub mod Changing
 pub mod Completed
 pub mod Ending

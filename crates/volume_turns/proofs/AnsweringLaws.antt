@@ -40,7 +40,7 @@ use Rattle.volume_turns.specs.Line.{EndsWith}
 use Rattle.volume_turns.specs.Steps.{IsToldOn, ended_by, read_ended_by}
 use Rattle.volume_turns.specs.Syncs.{SyncsOnce}
 use Rattle.volume_turns.specs.Turns.{KeepsSaid, SaysAll, Unsaid}
-use Rattle.volume_turns.proofs.OrderLaws.{delete_all, edit_rest, few_best, keep_small, put_rest, starts_up, steps_of}
+use Rattle.volume_turns.proofs.OrderLaws.{edit_rest, few_best, keep_small, move_rest, put_rest, sizeless, starts_up, steps_of}
 use Rattle.volume_turns.proofs.StatusLaws.{look_up_ends, loss_looks}
 use Rattle.volume_turns.proofs.ToldLaws.{told_may}
 
@@ -179,10 +179,10 @@ module _ (s : State) (up : s.down ≡ None) (why : Refusal) where
   edits : (P : Reply → Type 0) → P (Said.Refused Why.NoSuch) → Each why (IfOk (ended_by why) P) (edit_rest s)
   edits P none = (λ x. losses P why x.1, (λ x. looks P why x, (λ x. asked P why Why.NoSuch none x, tt)))
 
-  pub delete_refused : (key : Key) (i : Image) → Comes (down s ∷ delete_all s) why → IfOk (ended_by why) (λ a. MayReply (Word.Delete key) i a)
+  pub delete_refused : (key : Key) (i : Image) → Comes (sizeless s (edit_rest s)) why → IfOk (ended_by why) (λ a. MayReply (Word.Delete key) i a)
   delete_refused key i comes =
       let P : Reply → Type 0 = λ a. MayReply (Word.Delete key) i a in
-      elim (starts_up s up (delete_all s) why comes) [ inl worn ↦ worn_out P why (is_worn s) worn | inr later ↦ each why (IfOk (ended_by why) P) (edit_rest s) (edits P refl) later.1 ]
+      elim (starts_up s up (worn s ∷ edit_rest s) why comes) [ inl worn ↦ worn_out P why (is_worn s) worn | inr later ↦ each why (IfOk (ended_by why) P) (edit_rest s) (edits P refl) later.1 ]
 
   pub keep_refused : (name : List ℕ) (keep : ℕ) (i : Image) → Comes (steps_of s (cond (nat_lt max_keep keep) (Some (Why.KeepTooLarge keep)) None) (edit_rest s)) why → IfOk (ended_by why) (λ a. MayReply (Word.Keep name keep) i a)
   keep_refused name keep i comes =
@@ -197,6 +197,31 @@ module _ (s : State) (up : s.down ≡ None) (why : Refusal) where
       large : (b : Bool) → nat_lt max_keep keep ≡ b → cond b (Some (Why.KeepTooLarge keep)) None ≡ Some why → IfOk (ended_by why) P
       large true over is = tests P why true (Why.KeepTooLarge keep) (λ e. inl (refl, ltb-true max_keep keep over)) is
       large false over is = absurd (cc is)
+
+  full_table : (key : Key) (name : List ℕ) (i : Image) (b : Bool) → nat_lt (length s.free_pages) least_pages ≡ b → cond b (Some (Why.NameTableFull (length s.free_pages))) None ≡ Some why → IfOk (ended_by why) (λ a. MayReply (Word.Move key name) i a)
+  full_table key name i b at is = tests (λ a. MayReply (Word.Move key name) i a) why b (Why.NameTableFull (length s.free_pages)) (λ e. ltb-true (length s.free_pages) least_pages (at ∙ e)) is
+
+  moves : (key : Key) (name : List ℕ) (i : Image) → Each why (IfOk (ended_by why) (λ a. MayReply (Word.Move key name) i a)) (move_rest s)
+  moves key name i =
+      let P : Reply → Type 0 = λ a. MayReply (Word.Move key name) i a in
+      (
+        λ x. losses P why x.1,
+        (
+          λ x. looks P why x,
+          (
+            λ x. asked P why Why.NoSuch tt x,
+            (
+              λ x. asked P why Why.VersionsUsedUp tt x,
+              (λ x. full_table key name i (nat_lt (length s.free_pages) least_pages) refl x, (λ x. looks P why (fetches P why why x), tt)),
+            ),
+          ),
+        ),
+      )
+
+  pub move_refused : (key : Key) (name : List ℕ) (i : Image) → Comes (sizeless s (move_rest s)) why → IfOk (ended_by why) (λ a. MayReply (Word.Move key name) i a)
+  move_refused key name i comes =
+      let P : Reply → Type 0 = λ a. MayReply (Word.Move key name) i a in
+      elim (starts_up s up (worn s ∷ move_rest s) why comes) [ inl worn ↦ worn_out P why (is_worn s) worn | inr later ↦ each why (IfOk (ended_by why) P) (move_rest s) (moves key name i) later.1 ]
 
   pub entry_refused : (key : Key) (i : Image) → Comes (down s ∷ LookUp ∷ Asks Why.NoSuch ∷ []) why → IfOk (ended_by why) (λ a. MayReply (Word.Get key) i a)
   entry_refused key i comes =
@@ -292,6 +317,7 @@ alone_rest (Word.Put name bytes keep) s t a m b windows layout still none first 
     touches_then may (force_writes t.layout) may a m b (λ x out. out) (λ x out. subst (λ (l : Layout). IsFalse (force_writes l x)) (sym layout) (or_left (force_writes s.layout x) (in_place (place_in s (sectors_for (length bytes))) x) out)) windows first closing
 alone_rest (Word.Delete key) s t a m b windows layout still none first closing quiet = force_rest s t a m b windows layout first closing
 alone_rest (Word.Keep name keep) s t a m b windows layout still none first closing quiet = force_rest s t a m b windows layout first closing
+alone_rest (Word.Move key name) s t a m b windows layout still none first closing quiet = force_rest s t a m b windows layout first closing
 alone_rest Word.Force s t a m b windows layout still none first closing quiet = force_rest s t a m b windows layout first closing
 alone_rest Word.Tick s t a m b windows layout still none first closing quiet = force_rest s t a m b windows layout first closing
 alone_rest Word.Scrub s t a m b windows layout still none first closing quiet =
@@ -369,6 +395,7 @@ behind_mount : (command : Command) (sectors : ℕ) (s : State) (a m b : Moment) 
 behind_mount (Word.Put name bytes keep) sectors s a m b found windows rest = tt
 behind_mount (Word.Delete key) sectors s a m b found windows rest = found_force sectors s a m b found rest
 behind_mount (Word.Keep name keep) sectors s a m b found windows rest = found_force sectors s a m b found rest
+behind_mount (Word.Move key name) sectors s a m b found windows rest = found_force sectors s a m b found rest
 behind_mount Word.Force sectors s a m b found windows rest = found_force sectors s a m b found rest
 behind_mount Word.Tick sectors s a m b found windows rest = found_force sectors s a m b found rest
 behind_mount Word.Scrub sectors s a m b found windows rest = inr (record { seen = found.seen; from = found.from; layout = s.layout; anchor = found.anchor; found = found.found; left = found.left }, rest)
@@ -379,6 +406,7 @@ behind_nothing : (command : Command) (sectors : ℕ) (a m b : Moment) → Ages m
 behind_nothing (Word.Put name bytes keep) sectors a m b ages = tt
 behind_nothing (Word.Delete key) sectors a m b ages = inl ages
 behind_nothing (Word.Keep name keep) sectors a m b ages = inl ages
+behind_nothing (Word.Move key name) sectors a m b ages = inl ages
 behind_nothing Word.Force sectors a m b ages = inl ages
 behind_nothing Word.Tick sectors a m b ages = inl ages
 behind_nothing Word.Scrub sectors a m b ages = inl ages

@@ -14,7 +14,7 @@ use Rattle.fsd_texts.specs.declared.fault.Fault.TheVariants as Ends
 use Rattle.fsd_texts.specs.declared.line.Line.{Line}
 use Rattle.fsd_texts.specs.declared.line.Line.TheVariants as Says
 use Rattle.fsd_texts.specs.Text.{text}
-use Rattle.volume_contract.specs.Order.{CallStep, Draw, Force, IsDownBy, KeepsRefused, PassesTest, StepRefuses, Roots, delete_steps, force_steps, keep_steps, put_steps, with_drawn, with_three}
+use Rattle.volume_contract.specs.Order.{CallStep, Draw, Force, IsDownBy, KeepsRefused, PassesTest, StepRefuses, Roots, delete_steps, force_steps, keep_steps, move_steps, put_steps, with_drawn, with_three}
 use Rattle.volume_contract.specs.State.{HasCounted, IsDownAt, IsForced, IsNew, State, enters_again, forces_first, forces_for_place, is_worn, moved_third, numbered}
 use Rattle.volume_turns.specs.declared.turns.Halt.{Halt}
 use Rattle.volume_turns.specs.declared.turns.Halt.TheVariants.{Fault as Stopped}
@@ -155,6 +155,9 @@ module _ (s t : State) (r : Refusal) where
 
   pub keep_goes : (keep : ℕ) → KeepsRefused (keep_steps s keep) r s t → GoesUp 1 s t
   keep_goes keep keeps = goes_by (keep_steps s keep) s t (omega arith) (one_force (forces_first s)) (keeps_goes (keep_steps s keep) r s t keeps)
+
+  pub move_goes : KeepsRefused (move_steps s) r s t → GoesUp 1 s t
+  move_goes keeps = goes_by (move_steps s) s t (omega arith) (one_force (forces_first s)) (keeps_goes (move_steps s) r s t keeps)
 
   pub force_goes : KeepsRefused (force_steps s) r s t → GoesUp 1 s t
   force_goes keeps = goes_by (force_steps s) s t (omega arith) (one_force (nat_lt 0 (length s.dirty))) (keeps_goes (force_steps s) r s t keeps)

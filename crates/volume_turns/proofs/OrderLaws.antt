@@ -107,6 +107,12 @@ put_rest s need = Force (forces_for_place s need) ∷ place s need ∷ Draw ∷ 
 abbrev pub edit_rest : State → List CallStep
 edit_rest s = by_itself s ∷ LookUp ∷ Asks Why.NoSuch ∷ []
 
+abbrev pub move_rest : State → List CallStep
+move_rest s = by_itself s ∷ LookUp ∷ Asks Why.NoSuch ∷ Asks Why.VersionsUsedUp ∷ table_full s ∷ Fetch ∷ []
+
+full_never : (s : State) (why : Refusal) → IsOther why → cond (nat_lt (length s.free_pages) least_pages) (Some (Why.NameTableFull (length s.free_pages))) None ≡ Some why → ⊥
+full_never s why o = some_never (nat_lt (length s.free_pages) least_pages) (Why.NameTableFull (length s.free_pages)) why (not_other (Why.NameTableFull (length s.free_pages)) why (λ x. x) o)
+
 pub put_never : (s : State) (need : ℕ) (why : Refusal) → IsOther why → Never why (put_rest s need)
 put_never s need why o =
     let no_call = not_looked why o in (
@@ -123,7 +129,7 @@ put_never s need why o =
                 no_call.0,
                 (
                   λ is. not_other Why.VersionsUsedUp why (λ x. x) o (sym is),
-                  (some_never (nat_lt (length s.free_pages) least_pages) (Why.NameTableFull (length s.free_pages)) why (not_other (Why.NameTableFull (length s.free_pages)) why (λ x. x) o), (no_call.1, tt)),
+                  (full_never s why o, (no_call.1, tt)),
                 ),
               ),
             ),
@@ -134,6 +140,19 @@ put_never s need why o =
 
 pub edit_never : (s : State) (why : Refusal) → IsOther why → Never why (edit_rest s)
 edit_never s why o = let no_call = not_looked why o in (λ x. no_call.2 x.1, (no_call.0, (λ is. not_other Why.NoSuch why (λ x. x) o (sym is), tt)))
+
+pub move_never : (s : State) (why : Refusal) → IsOther why → Never why (move_rest s)
+move_never s why o =
+    let no_call = not_looked why o in (
+      λ x. no_call.2 x.1,
+      (
+        no_call.0,
+        (
+          λ is. not_other Why.NoSuch why (λ x. x) o (sym is),
+          (λ is. not_other Why.VersionsUsedUp why (λ x. x) o (sym is), (full_never s why o, (no_call.1, tt))),
+        ),
+      ),
+    )
 
 module _ (s : State) (up : s.down ≡ None) where
   pub starts_up : (rest : List CallStep) (why : Refusal) → Comes (down s ∷ rest) why → Comes rest why
@@ -200,25 +219,25 @@ module _ (s : State) (need : ℕ) where
   few_best is = few (pick s.free need) refl is
 
 -- a call without a test of a size
-abbrev pub delete_all : State → List CallStep
-delete_all s = worn s ∷ edit_rest s
+abbrev pub sizeless : State → List CallStep → List CallStep
+sizeless s rest = down s ∷ worn s ∷ rest
 
-module _ (s : State) (up : s.down ≡ None) where
-  pub delete_down : (why : Refusal) → Comes (down s ∷ delete_all s) why → (t : ℕ) → why ≡ Why.Down t → ⊥
-  delete_down why comes t is =
-      elim (starts_up s up (delete_all s) (Why.Down t) (subst (λ (w : Refusal). Comes (down s ∷ delete_all s) w) is comes)) [
+module _ (s : State) (up : s.down ≡ None) (rest : List CallStep) (rest_other : (why : Refusal) → IsOther why → Never why rest) where
+  pub sizeless_down : (why : Refusal) → Comes (sizeless s rest) why → (t : ℕ) → why ≡ Why.Down t → ⊥
+  sizeless_down why comes t is =
+      elim (starts_up s up (worn s ∷ rest) (Why.Down t) (subst (λ (w : Refusal). Comes (sizeless s rest) w) is comes)) [
         | inl here ↦ cc (refuses_worn (is_worn s) (Why.Down t) here).0
-        | inr later ↦ never (Why.Down t) (edit_rest s) (edit_never s (Why.Down t) tt) later.1
+        | inr later ↦ never (Why.Down t) rest (rest_other (Why.Down t) tt) later.1
       ]
 
-  pub delete_unworn : (why : Refusal) → Comes (down s ∷ delete_all s) why → (why ≡ Why.WornOut → ⊥) → IsFalse (is_worn s)
-  delete_unworn why comes other = past_worn (is_worn s) (edit_rest s) why other (starts_up s up (delete_all s) why comes)
+  pub sizeless_unworn : (why : Refusal) → Comes (sizeless s rest) why → (why ≡ Why.WornOut → ⊥) → IsFalse (is_worn s)
+  sizeless_unworn why comes other = past_worn (is_worn s) rest why other (starts_up s up (worn s ∷ rest) why comes)
 
-  pub delete_worn : Comes (down s ∷ delete_all s) Why.WornOut → IsTrue (is_worn s)
-  delete_worn comes = at_worn (is_worn s) (edit_rest s) (never Why.WornOut (edit_rest s) (edit_never s Why.WornOut tt)) (starts_up s up (delete_all s) Why.WornOut comes)
+  pub sizeless_worn : Comes (sizeless s rest) Why.WornOut → IsTrue (is_worn s)
+  sizeless_worn comes = at_worn (is_worn s) rest (never Why.WornOut rest (rest_other Why.WornOut tt)) (starts_up s up (worn s ∷ rest) Why.WornOut comes)
 
-pub delete_through : (s : State) → Through (down s ∷ delete_all s) → IsFalse (is_worn s)
-delete_through s is = passes_worn (is_worn s) is.1.0
+pub sizeless_through : (s : State) (rest : List CallStep) → Through (sizeless s rest) → IsFalse (is_worn s)
+sizeless_through s rest is = passes_worn (is_worn s) is.1.0
 
 -- a force
 pub force_loss : (s : State) → s.down ≡ None → (comes_one : Bool) (why : Refusal) → Comes (down s ∷ Force comes_one ∷ []) why → IsLoss why

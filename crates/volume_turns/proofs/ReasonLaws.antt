@@ -14,7 +14,7 @@ use Rattle.fsd_table.specs.Table.{Visit}
 use Rattle.fsd_files.specs.declared.reply.Reply.{Reply}
 use Rattle.fsd_files.specs.declared.reply.Reply.TheVariants as Said
 use Rattle.fsd_texts.specs.declared.fault.Fault.{Fault}
-use Rattle.volume_contract.specs.Causes.{IsRead, StoodInCopy}
+use Rattle.volume_contract.specs.Causes.{IsRead, ShowsOfPages, StoodInCopy}
 use Rattle.volume_contract.specs.Ends.{IsLater}
 use Rattle.volume_contract.specs.State.{Ages, State}
 use Rattle.scrub.specs.Walk.{last_key}
@@ -79,6 +79,10 @@ ages_then a b c x y = record {
 }
 
 module _ {S : Type 0} (state : S → State) (resident : S → ℕ → Option (List ℕ)) where
+  -- what a call's own pages show
+  pub showed_here : (v : S) (t : State) (old new : Moment) (Is : Moment → List (List ℕ) → Type 0) → ShowsOfPages (state v) t (resident v) old new (Is old) → ShowedOf state resident (state v) t old new Is
+  showed_here v t old new Is shows = record { by = v; same = refl; from = old; aged = ages_here old; shows = shows }
+
   pub showed_since : (s r t : State) (old mid new : Moment) (Is : Moment → List (List ℕ) → Type 0) → r ≡ s → Ages old mid → ShowedOf state resident r t mid new Is → ShowedOf state resident s t old new Is
   showed_since s r t old mid new Is same aged x = record { by = x.by; same = x.same ∙ same; from = x.from; aged = ages_then old mid x.from aged x.aged; shows = x.shows }
 

@@ -25,7 +25,7 @@ use Rattle.volume_contract.specs.State.{Ages, State, change_len, force_len, put_
 use Rattle.scrub.specs.Scrub.{scrub_writes}
 use Rattle.scrub.specs.Telling.{AreOfPage, StandTwice}
 use Rattle.volume_turns.specs.Causes.{HasVolume}
-use Rattle.volume_turns.specs.Reasons.{BecauseCalled, BecauseListed, BecauseRead, BecauseScrubbed, BecauseUpgraded, HasScrubbed, HasWritten}
+use Rattle.volume_turns.specs.Reasons.{BecauseCalled, BecauseDeleted, BecauseListed, BecauseMoved, BecauseRead, BecauseScrubbed, BecauseUpgraded, HasScrubbed, HasWritten}
 
 -- ---- refusals
 
@@ -45,6 +45,13 @@ RefusesPut keep len why = let size = size_fault (keep_given keep) len in (size �
 abbrev pub RefusesKeep : (keep : ℕ) → Refusal → Type 0
 RefusesKeep keep why = ((why ≡ Why.KeepTooLarge keep) × (max_keep < keep)) ⊎ ((why ≡ Why.NoSuch) × (keep ≤ max_keep))
 
+-- a version that is to move isn't there, or the name has had its last version, or free name pages are wanting
+abbrev pub RefusesMove : Refusal → Type 0
+RefusesMove Why.NoSuch = ⊤
+RefusesMove Why.VersionsUsedUp = ⊤
+RefusesMove (Why.NameTableFull free) = free < least_pages
+RefusesMove why = ⊥
+
 -- ---- replies
 
 -- a damaged sector of the image
@@ -62,6 +69,9 @@ MayReply (Word.Delete key) i reply = ⊥
 MayReply (Word.Keep name keep) i (Said.Kept key k) = (key.name ≡ name) × (k ≡ keep) × (keep ≤ max_keep)
 MayReply (Word.Keep name keep) i (Said.Refused why) = RefusesKeep keep why
 MayReply (Word.Keep name keep) i reply = ⊥
+MayReply (Word.Move key name) i (Said.Moved from to) = (from ≡ key) × (to.name ≡ name)
+MayReply (Word.Move key name) i (Said.Refused why) = RefusesMove why
+MayReply (Word.Move key name) i reply = ⊥
 MayReply (Word.Get key) i (Said.Bytes k bytes) = k ≡ key
 MayReply (Word.Get key) i (Said.DamagedAt k s) = (k ≡ key) × HasDamaged i s
 MayReply (Word.Get key) i (Said.Refused why) = why ≡ Why.NoSuch
@@ -91,6 +101,7 @@ abbrev pub may_write : Command → State → Sectors
 may_write (Word.Put name bytes keep) s = put_writes s (sectors_for (length bytes))
 may_write (Word.Delete key) s = force_writes s.layout
 may_write (Word.Keep name keep) s = force_writes s.layout
+may_write (Word.Move key name) s = force_writes s.layout
 may_write Word.Force s = force_writes s.layout
 may_write Word.Tick s = force_writes s.layout
 may_write Word.Scrub s = scrub_writes s.layout
@@ -104,6 +115,7 @@ abbrev pub KeepsState : Command → State → State → Type 0
 KeepsState (Word.Put name bytes keep) s t = ⊤
 KeepsState (Word.Delete key) s t = ⊤
 KeepsState (Word.Keep name keep) s t = ⊤
+KeepsState (Word.Move key name) s t = ⊤
 KeepsState Word.Force s t = ⊤
 KeepsState Word.Tick s t = ⊤
 KeepsState Word.Scrub s t = s.dirty ≡ [] → t ≡ s
@@ -121,6 +133,7 @@ abbrev pub WritesBehind : Command → (sectors : ℕ) → (old mounted new : Mom
 WritesBehind (Word.Put name bytes keep) sectors old mounted new = ⊤
 WritesBehind (Word.Delete key) sectors old mounted new = WritesForce sectors old mounted new
 WritesBehind (Word.Keep name keep) sectors old mounted new = WritesForce sectors old mounted new
+WritesBehind (Word.Move key name) sectors old mounted new = WritesForce sectors old mounted new
 WritesBehind Word.Force sectors old mounted new = WritesForce sectors old mounted new
 WritesBehind Word.Tick sectors old mounted new = WritesForce sectors old mounted new
 WritesBehind Word.Scrub sectors old mounted new = Ages mounted new ⊎ ((volume : HasVolume sectors old) × Touches (scrub_writes volume.layout) mounted new)
@@ -134,6 +147,7 @@ abbrev pub most_written : Command → State → ℕ
 most_written (Word.Put name bytes keep) s = put_len s (sectors_for (length bytes))
 most_written (Word.Delete key) s = change_len s
 most_written (Word.Keep name keep) s = change_len s
+most_written (Word.Move key name) s = change_len s
 most_written Word.Force s = force_len s
 most_written Word.Tick s = force_len s
 most_written Word.Scrub s = force_len s
@@ -161,8 +175,9 @@ MayLose command = AreOfPage
 module _ {S : Type 0} (state : S → State) (resident : S → ℕ → Option (List ℕ)) where
   abbrev pub Because : Command → (s t : State) → (old new : Moment) → Reply → Type 0
   Because (Word.Put name bytes keep) s t old new reply = ⊤
-  Because (Word.Delete key) s t old new reply = ⊤
+  Because (Word.Delete key) s t old new reply = BecauseDeleted state resident key s t old new reply
   Because (Word.Keep name keep) s t old new reply = ⊤
+  Because (Word.Move key name) s t old new reply = BecauseMoved state resident key s t old new reply
   Because (Word.List pattern) s t old new reply = BecauseListed state resident pattern s t old new reply
   Because (Word.Get key) s t old new reply = BecauseRead state resident key s t old new reply
   Because Word.Force s t old new reply = ⊤

@@ -17,7 +17,7 @@ use Rattle.fsd_texts.specs.declared.call.Call.{Call}
 use Rattle.fsd_texts.specs.declared.call.Call.TheVariants as Calls
 use Rattle.fsd_texts.specs.declared.fault.Fault.{Fault}
 use Rattle.sector_disk.specs.Machine.{Ledger, Moment}
-use Rattle.fsd_sound.specs.Lookups.{HasNext, LacksKey, LacksLater}
+use Rattle.fsd_sound.specs.Lookups.{HasKey, HasNext, LacksKey, LacksLater}
 use Rattle.fsd_table.specs.Reached.{ReachesPage, HasEntry}
 use Rattle.volume_contract.specs.Causes.{IsTaken, ShowsOfPages}
 use Rattle.volume_contract.specs.Ends.{IsLater}
@@ -112,6 +112,17 @@ module _ {S : Type 0} (state : S → State) (resident : S → ℕ → Option (Li
   BecauseRead key s t old new (Said.Refused why) = why ≡ Why.NoSuch → Showed s t old new (λ from. LacksKey key)
   BecauseRead key s t old new (Said.Bytes k bytes) = Showed s t old new (λ from. HasVersion t from.image key bytes)
   BecauseRead key s t old new reply = ⊤
+
+  -- A leaf that was reached had an entry of the version that is taken out.
+  abbrev pub BecauseDeleted : Key → (s t : State) → (old new : Moment) → Reply → Type 0
+  BecauseDeleted key s t old new (Said.Deleted k) = Showed s t old new (λ from. HasKey key)
+  BecauseDeleted key s t old new reply = ⊤
+
+  -- The same of one that moves; or none of the key is there.
+  abbrev pub BecauseMoved : Key → (s t : State) → (old new : Moment) → Reply → Type 0
+  BecauseMoved key s t old new (Said.Refused why) = why ≡ Why.NoSuch → Showed s t old new (λ from. LacksKey key)
+  BecauseMoved key s t old new (Said.Moved k to) = Showed s t old new (λ from. HasKey key)
+  BecauseMoved key s t old new reply = ⊤
 
   abbrev pub BecauseListed : Pattern → (s t : State) → (old new : Moment) → Reply → Type 0
   BecauseListed pattern s t old new (Said.Listed entries) = ListsAll pattern s t old new entries

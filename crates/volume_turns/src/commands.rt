@@ -75,6 +75,26 @@ pub(crate) fn set_keep<M: Machine, V: Files<M>>(
     }
 }
 
+// Moves a version to another name.
+pub(crate) fn move_version<M: Machine, V: Files<M>>(
+    v: &mut V,
+    m: &mut M,
+    key: &Key,
+    name: &FileName,
+) -> Result<Reply, Fault>
+    requires room { (V.state v.old).layout.sectors ≤ (M.report m.old).sectors }
+    requires up { (V.state v.old).down ≡ None }
+    ensures { Did M.Machine V.state V.holds V.resident (Word.Move key.now name.now) v.old v.new m.old m.new result }
+{
+    match v.move_to(m, key, name) {
+        Ok(to) => Ok(Reply::Moved {
+            from: key.copied(),
+            to,
+        }),
+        Err(why) => ended_by(why),
+    }
+}
+
 // Forces all.
 pub(crate) fn force<M: Machine, V: Files<M>>(v: &mut V, m: &mut M) -> Result<Reply, Fault>
     requires room { (V.state v.old).layout.sectors ≤ (M.report m.old).sectors }
@@ -176,6 +196,7 @@ pub(crate) fn answer<M: Machine, V: Files<M>>(
         Command::Put { name, bytes, keep } => put(v, m, name, *keep, bytes.as_slice()),
         Command::Delete(key) => delete(v, m, key),
         Command::Keep { name, keep } => set_keep(v, m, name, *keep),
+        Command::Move { key, name } => move_version(v, m, key, name),
         Command::Get(key) => get(alloc, v, m, key),
         Command::Force => force(v, m),
         Command::Tick => tick(v, m),

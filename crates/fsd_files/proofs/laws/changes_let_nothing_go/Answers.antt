@@ -1,4 +1,4 @@
-use Rattle.fsd_files.proofs.ChangeLaws.{delete_changes, keep_changes, put_changes}
+use Rattle.fsd_files.proofs.ChangeLaws.{delete_changes, keep_changes, move_changes, put_changes}
 use Rattle.fsd_files.proofs.WaitLaws.{forced_is_spaced}
 use Rattle.fsd_files.proofs.laws.changes_let_nothing_go.Goals as goal
 
@@ -13,3 +13,6 @@ returns-clause-keeps c = keep_changes
 
 pub returns-clause-forces : goal.returns-clause-forces
 returns-clause-forces c = forced_is_spaced
+
+pub returns-clause-moves : goal.returns-clause-moves
+returns-clause-moves c = move_changes

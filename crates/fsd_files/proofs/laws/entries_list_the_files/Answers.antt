@@ -1,4 +1,4 @@
-use Rattle.fsd_files.proofs.ListingLaws.{deletes_listed, keeps_listed, puts_listed}
+use Rattle.fsd_files.proofs.ListingLaws.{deletes_listed, keeps_listed, moves_listed, puts_listed}
 use Rattle.fsd_files.proofs.laws.entries_list_the_files.Goals as goal
 
 pub returns-clause-puts : goal.returns-clause-puts
@@ -9,3 +9,6 @@ returns-clause-deletes c = deletes_listed
 
 pub returns-clause-keeps : goal.returns-clause-keeps
 returns-clause-keeps c = keeps_listed
+
+pub returns-clause-moves : goal.returns-clause-moves
+returns-clause-moves c = moves_listed

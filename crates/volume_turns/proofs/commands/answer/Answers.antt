@@ -9,6 +9,9 @@ returns-in-Delete g c = rw c.in-Delete.is c.delete.ensures
 pub returns-in-Keep : goal.returns-in-Keep
 returns-in-Keep g c = rw c.in-Keep.is c.set_keep.ensures
 
+pub returns-in-Move : goal.returns-in-Move
+returns-in-Move g c = rw c.in-Move.is c.move_version.ensures
+
 pub returns-in-Get : goal.returns-in-Get
 returns-in-Get g c = rw c.in-Get.is c.get.ensures
 

@@ -19,7 +19,7 @@ use Rattle.volume_turns.proofs.NumberLaws.{goes_none}
 use Rattle.volume_turns.proofs.OrderLaws.{entry_down, entry_worn}
 use Rattle.volume_turns.proofs.ReadLaws.{does_earlier, found_length, unfound_does}
 use Rattle.volume_turns.proofs.GetLaws.{tells_then}
-use Rattle.volume_turns.proofs.ReasonLaws.{ages_here, read_since}
+use Rattle.volume_turns.proofs.ReasonLaws.{read_since, showed_here}
 use Rattle.volume_turns.proofs.commands.get.Goals as goal
 
 pub returns-in-Ok : goal.returns-in-Ok
@@ -70,5 +70,5 @@ returns-in-Err g c =
     (refused_did M V.state V.holds a b V.resident (Word.Get key) v w (λ h. worn_touches nowhere (M.now a) (M.now b) (e.disk.worn h).image) e.state (goes_none 1 s t e.state)
     (entry_steps s) why up e.order.follows (entry_down s up why e.order.follows) (λ comes. absurd (entry_worn s up comes)) (goes_same (downs_for why) s t e.state) disk e.tells.causes
     refl (λ h. entry_refused s up why key (M.now b).image e.order.follows) (λ tells. reads_none (M.ledger a) (M.ledger b) (e.disk.ledger tells))
-    (λ h none. record { by = v; same = refl; from = M.now a; aged = ages_here (M.now a); shows = e.tells.absent (ap (λ (x : Refusal). Err x) none) h })
+    (λ h none. showed_here V.state V.resident v t (M.now a) (M.now b) _ (e.tells.absent (ap (λ (x : Refusal). Err x) none) h))
     (λ h k stands. unfound_does V.state V.holds key v w k (M.now a) (M.now b) why (e.stands h k stands) (e.done h k stands)))

@@ -5,15 +5,16 @@ use Rattle.sector_disk.specs.Machine.{Wears}
 use Rattle.fsd_files.specs.Answers.{delete_outcome}
 use Rattle.fsd_files.specs.Files.{Change}
 use Rattle.fsd_files.specs.declared.reply.Reply.TheVariants.{Deleted}
+use Rattle.fsd_sound.specs.Lookups.{HasKey}
 use Rattle.fsd_sound.specs.Writes.{force_writes}
 use Rattle.volume_contract.specs.Ends.{device_of}
 use Rattle.volume_contract.specs.Order.{by_itself}
 use Rattle.volume_contract.specs.State.{Leaves, change_len, volume_of}
 use Rattle.volume_laws.specs.Ending.{delete_tests, look_steps}
 use Rattle.volume_laws.specs.State.{IsMemoryOf, resident, state}
-use Rattle.volume_laws.proofs.BehindLaws.{causes_behind, delete_causes, edited_layout, edited_slots}
+use Rattle.volume_laws.proofs.BehindLaws.{causes_behind, delete_causes, edited_layout, edited_slots, found_behind, ok_more}
 use Rattle.volume_laws.proofs.CauseLaws.{handed_cause}
-use Rattle.volume_laws.proofs.BehindForce.{busy, change_counts, change_ends, change_follows, change_goes, change_kept, failed_comes, failed_keeps, force_ends, is_up, keeps_refused, leaves_behind, not_worn, number_behind, up_behind}
+use Rattle.volume_laws.proofs.BehindForce.{busy, change_counts, change_ends, change_follows, change_goes, change_kept, failed_comes, failed_keeps, force_ends, is_up, keeps_refused, leaves_behind, look_follows, not_worn, number_behind, up_behind}
 use Rattle.volume_laws.proofs.StepLaws.{comes_more}
 use Rattle.volume_laws.proofs.TestedLaws.{delete_places, delete_refusals, delete_test_ends, delete_through}
 use Rattle.volume_laws.proofs.WrittenLaws.{leaves_still}
@@ -23,43 +24,43 @@ use Rattle.table_volume.proofs.files.VolumeFiles.delete.Goals as goal
 
 -- ---- where a test refuses
 
-pub returns-in_err-may_delete-clause-order : goal.returns-in_err-may_delete-clause-order
-returns-in_err-may_delete-clause-order g c =
+pub returns-in_err-may_change-clause-order : goal.returns-in_err-may_change-clause-order
+returns-in_err-may_change-clause-order g c =
     let s = state c.args.self.now in
     let p = err_from_is_err_and c.from_residual.result c.from_residual.ensures.1 in
     rw (p.1, p.2) (record {
-      follows = comes_more (delete_tests s) (by_itself s ∷ look_steps) c.in_err-may_delete.field-0.0 c.in_err-may_delete.ensures;
+      follows = comes_more (delete_tests s) (by_itself s ∷ look_steps) c.in_err-may_change.field-0.0 c.in_err-may_change.ensures;
       idle = λ idle. refl;
     })
 
-pub returns-in_err-may_delete-clause-disk : goal.returns-in_err-may_delete-clause-disk
-returns-in_err-may_delete-clause-disk g c =
+pub returns-in_err-may_change-clause-disk : goal.returns-in_err-may_change-clause-disk
+returns-in_err-may_change-clause-disk g c =
     let v = c.args.self.now in
     let at = c.args.m.now in
-    writes_told (told_up device_of c.from_residual.result c.in_err-may_delete.field-0.0 c.from_residual.ensures.1 ∙ delete_places (state v) c.in_err-may_delete.field-0.0 c.in_err-may_delete.ensures)
+    writes_told (told_up device_of c.from_residual.result c.in_err-may_change.field-0.0 c.from_residual.ensures.1 ∙ delete_places (state v) c.in_err-may_change.field-0.0 c.in_err-may_change.ensures)
     (writes_none at (λ left h is. g.met.M.Machine.only_now at left h is) (Leaves state IsMemoryOf v (force_writes v.layout)) (λ h. leaves_still v (g.M.Machine.now at) (force_writes v.layout)))
 
-pub returns-in_err-may_delete-clause-writes : goal.returns-in_err-may_delete-clause-writes
-returns-in_err-may_delete-clause-writes g c =
+pub returns-in_err-may_change-clause-writes : goal.returns-in_err-may_change-clause-writes
+returns-in_err-may_change-clause-writes g c =
     let p = err_from_is_err_and c.from_residual.result c.from_residual.ensures.1 in
     rw (p.1, p.2) (record {
       rest = λ h. touches_none (force_writes c.args.self.now.layout) (g.M.Machine.now c.args.m.now);
       counted = λ tells. (omega arith, omega arith);
     })
 
-pub returns-in_err-may_delete-clause-keeps : goal.returns-in_err-may_delete-clause-keeps
-returns-in_err-may_delete-clause-keeps g c =
+pub returns-in_err-may_change-clause-keeps : goal.returns-in_err-may_change-clause-keeps
+returns-in_err-may_change-clause-keeps g c =
     let s = state c.args.self.now in
     let p = err_from_is_err_and c.from_residual.result c.from_residual.ensures.1 in
     rw (p.1, p.2) (record {
       state = record { layout = refl; epoch = refl; unfinished = refl; readers = refl; down = inl refl };
-      kept = keeps_refused (delete_refusals s) (by_itself s ∷ look_steps) c.in_err-may_delete.field-0.0 s c.in_err-may_delete.ensures;
+      kept = keeps_refused (delete_refusals s) (by_itself s ∷ look_steps) c.in_err-may_change.field-0.0 s c.in_err-may_change.ensures;
     })
 
-pub returns-in_err-may_delete-clause-done : goal.returns-in_err-may_delete-clause-done
-returns-in_err-may_delete-clause-done g c =
+pub returns-in_err-may_change-clause-done : goal.returns-in_err-may_change-clause-done
+returns-in_err-may_change-clause-done g c =
     let p = err_from_is_err_and c.from_residual.result c.from_residual.ensures.1 in
-    rw (p.1, p.2) (λ h k stands. delete_test_ends {T = Unit {0}} (λ met. delete_outcome met (volume_of k) c.args.key.now) (λ x. Deleted c.args.key.now) (Change.Delete c.args.key.now) c.args.self.now k (g.M.Machine.now c.args.m.now) c.in_err-may_delete.field-0.0 stands c.in_err-may_delete.ensures)
+    rw (p.1, p.2) (λ h k stands. delete_test_ends {T = Unit {0}} (λ met. delete_outcome met (volume_of k) c.args.key.now) (λ x. Deleted c.args.key.now) (Change.Delete c.args.key.now) c.args.self.now k (g.M.Machine.now c.args.m.now) c.in_err-may_change.field-0.0 stands c.in_err-may_change.ensures)
 
 -- ---- where the force fails
 
@@ -68,8 +69,8 @@ returns-in_err-force_first-clause-order g c =
     let s = state c.args.self.now in
     let p = err_from_is_err_and c.from_residual-in_err-force_first.result c.from_residual-in_err-force_first.ensures.1 in
     rw (p.1, p.2) (record {
-      follows = failed_comes s (delete_refusals s) c.in_ok-may_delete.ensures c.in_err-force_first.field-0.0 c.in_err-force_first.ensures.keeps.forces.order;
-      idle = λ idle. absurd (busy s (delete_refusals s) c.in_ok-may_delete.ensures idle);
+      follows = failed_comes s (delete_refusals s) c.in_ok-may_change.ensures look_follows c.in_err-force_first.field-0.0 c.in_err-force_first.ensures.keeps.forces.order;
+      idle = λ idle. absurd (busy s (delete_refusals s) c.in_ok-may_change.ensures look_follows idle);
     })
 
 pub returns-in_err-force_first-clause-keeps : goal.returns-in_err-force_first-clause-keeps
@@ -78,7 +79,7 @@ returns-in_err-force_first-clause-keeps g c =
     let p = err_from_is_err_and c.from_residual-in_err-force_first.result c.from_residual-in_err-force_first.ensures.1 in
     rw (p.1, p.2) (record {
       state = c.in_err-force_first.ensures.keeps.forces.state;
-      kept = failed_keeps s (delete_refusals s) c.in_ok-may_delete.ensures c.in_err-force_first.field-0.0 (state c.force_first.new.self) c.in_err-force_first.ensures.keeps.forces.kept;
+      kept = failed_keeps s (delete_refusals s) c.in_ok-may_change.ensures look_follows c.in_err-force_first.field-0.0 (state c.force_first.new.self) c.in_err-force_first.ensures.keeps.forces.kept;
     })
 
 pub returns-in_err-force_first-clause-disk : goal.returns-in_err-force_first-clause-disk
@@ -101,26 +102,26 @@ returns-in_err-force_first-clause-done g c =
 
 pub delete_now-requires-clause-up : goal.delete_now-requires-clause-up
 delete_now-requires-clause-up g c =
-    up_behind (state c.args.self.now) (delete_refusals (state c.args.self.now)) c.in_ok-may_delete.ensures (state c.force_first.new.self) (state c.force_first.new.self) c.in_ok-force_first.ensures.keeps.forces (is_up c.args.self.now.down c.in_ok-may_delete.ensures.0)
+    up_behind (state c.args.self.now) (delete_refusals (state c.args.self.now)) c.in_ok-may_change.ensures (state c.force_first.new.self) (state c.force_first.new.self) c.in_ok-force_first.ensures.keeps.forces (is_up c.args.self.now.down c.in_ok-may_change.ensures.0)
 
 pub delete_now-requires-clause-numbered : goal.delete_now-requires-clause-numbered
 delete_now-requires-clause-numbered g c =
-    number_behind (state c.args.self.now) (delete_refusals (state c.args.self.now)) c.in_ok-may_delete.ensures (state c.force_first.new.self) (state c.force_first.new.self) c.in_ok-force_first.ensures.keeps.forces (not_worn (state c.args.self.now) c.in_ok-may_delete.ensures.1.0)
+    number_behind (state c.args.self.now) (delete_refusals (state c.args.self.now)) c.in_ok-may_change.ensures (state c.force_first.new.self) (state c.force_first.new.self) c.in_ok-force_first.ensures.keeps.forces (not_worn (state c.args.self.now) c.in_ok-may_change.ensures.1.0)
 
 pub returns-clause-order : goal.returns-clause-order
 returns-clause-order g c =
     let s = state c.args.self.now in
     record {
-      follows = change_follows s (delete_refusals s) c.in_ok-may_delete.ensures (state c.force_first.new.self) (state c.delete_now.new.self) c.in_ok-force_first.ensures.keeps.forces c.delete_now.result c.delete_now.ensures.order;
-      idle = λ idle. absurd (busy s (delete_refusals s) c.in_ok-may_delete.ensures idle);
+      follows = change_follows s (delete_refusals s) c.in_ok-may_change.ensures look_follows (state c.force_first.new.self) (state c.delete_now.new.self) c.in_ok-force_first.ensures.keeps.forces c.delete_now.result c.delete_now.ensures.order;
+      idle = λ idle. absurd (busy s (delete_refusals s) c.in_ok-may_change.ensures look_follows idle);
     }
 
 pub returns-clause-keeps : goal.returns-clause-keeps
 returns-clause-keeps g c =
     let s = state c.args.self.now in
     record {
-      state = change_goes s (delete_refusals s) c.in_ok-may_delete.ensures (state c.force_first.new.self) (state c.delete_now.new.self) c.in_ok-force_first.ensures.keeps.forces c.delete_now.result c.delete_now.ensures.edited;
-      kept = change_kept s (delete_refusals s) c.in_ok-may_delete.ensures (state c.force_first.new.self) (state c.delete_now.new.self) c.in_ok-force_first.ensures.keeps.forces c.delete_now.result c.delete_now.ensures.order c.delete_now.ensures.edited;
+      state = change_goes s (delete_refusals s) c.in_ok-may_change.ensures (state c.force_first.new.self) (state c.delete_now.new.self) c.in_ok-force_first.ensures.keeps.forces c.delete_now.result c.delete_now.ensures.edited;
+      kept = change_kept s (delete_refusals s) c.in_ok-may_change.ensures look_follows (state c.force_first.new.self) (state c.delete_now.new.self) c.in_ok-force_first.ensures.keeps.forces c.delete_now.result c.delete_now.ensures.order c.delete_now.ensures.edited;
     }
 
 pub returns-clause-writes : goal.returns-clause-writes
@@ -158,21 +159,33 @@ returns-clause-done g c = λ h k stands.
 
 -- ---- why it tells something as lost or as unsound
 
-pub returns-in_err-may_delete-clause-causes : goal.returns-in_err-may_delete-clause-causes
-returns-in_err-may_delete-clause-causes g c =
+pub returns-in_err-may_change-clause-tells : goal.returns-in_err-may_change-clause-tells
+returns-in_err-may_change-clause-tells g c =
     let v = c.args.self.now in
-    delete_causes g.M.Machine (state v) (resident v) c.args.m.now c.from_residual.result c.in_err-may_delete.field-0.0 c.from_residual.ensures.1 c.in_err-may_delete.ensures
+    let p = err_from_is_err_and c.from_residual.result c.from_residual.ensures.1 in
+    record {
+      causes = delete_causes g.M.Machine (state v) (resident v) c.args.m.now c.from_residual.result c.in_err-may_change.field-0.0 c.from_residual.ensures.1 c.in_err-may_change.ensures;
+      found = rw p.1 tt;
+    }
 
-pub returns-in_err-force_first-clause-causes : goal.returns-in_err-force_first-clause-causes
-returns-in_err-force_first-clause-causes g c =
+pub returns-in_err-force_first-clause-tells : goal.returns-in_err-force_first-clause-tells
+returns-in_err-force_first-clause-tells g c =
     let v = c.args.self.now in
-    handed_cause g.M.Machine (resident v) (state v) (state c.force_first.new.self) c.args.m.now c.force_first.new.m c.in_err-force_first.field-0.0 c.from_residual-in_err-force_first.result c.from_residual-in_err-force_first.ensures.1 c.in_err-force_first.ensures.tells.causes
+    let p = err_from_is_err_and c.from_residual-in_err-force_first.result c.from_residual-in_err-force_first.ensures.1 in
+    record {
+      causes = handed_cause g.M.Machine (resident v) (state v) (state c.force_first.new.self) c.args.m.now c.force_first.new.m c.in_err-force_first.field-0.0 c.from_residual-in_err-force_first.result c.from_residual-in_err-force_first.ensures.1 c.in_err-force_first.ensures.tells.causes;
+      found = rw p.1 tt;
+    }
 
-pub returns-clause-causes : goal.returns-clause-causes
-returns-clause-causes g c =
+pub returns-clause-tells : goal.returns-clause-tells
+returns-clause-tells g c =
     let v = c.args.self.now in
     let mid = c.force_first.new.self in
     let new = c.delete_now.new.self in
     let change = c.delete_now.ensures in
-    causes_behind g.M.Machine (state v) (state mid) (state new) (resident v) (resident mid) c.args.m.now c.force_first.new.m c.delete_now.new.m (λ h. c.in_ok-force_first.ensures.tells.behind (change.disk.trust.honest h))
-    (edited_slots (state mid) (state new) c.delete_now.result change.edited) (edited_layout (state mid) (state new) c.delete_now.result change.edited) change.disk.worn c.delete_now.result change.causes
+    let slots = edited_slots (state mid) (state new) c.delete_now.result change.edited in
+    let layout = edited_layout (state mid) (state new) c.delete_now.result change.edited in
+    record {
+      causes = causes_behind g.M.Machine (state v) (state mid) (state new) (resident v) (resident mid) c.args.m.now c.force_first.new.m c.delete_now.new.m (λ h. c.in_ok-force_first.ensures.tells.behind (change.disk.trust.honest h)) slots layout change.disk.worn c.delete_now.result change.tells.causes;
+      found = ok_more c.delete_now.result (found_behind g.M.Machine (state v) (state mid) (state new) (resident v) (resident mid) c.args.m.now c.force_first.new.m c.delete_now.new.m (λ h. c.in_ok-force_first.ensures.tells.behind (change.disk.trust.honest h)) slots layout change.disk.worn (HasKey c.args.key.now)) change.tells.found;
+    }

@@ -12,7 +12,7 @@ use Rattle.volume_laws.specs.Ending.{keep_tests, look_steps}
 use Rattle.volume_laws.specs.State.{IsMemoryOf, resident, state}
 use Rattle.volume_laws.proofs.BehindLaws.{causes_behind, keep_causes, edited_layout, edited_slots}
 use Rattle.volume_laws.proofs.CauseLaws.{handed_cause}
-use Rattle.volume_laws.proofs.BehindForce.{busy, change_counts, change_ends, change_follows, change_goes, change_kept, failed_comes, failed_keeps, force_ends, is_up, keeps_refused, leaves_behind, not_worn, number_behind, up_behind}
+use Rattle.volume_laws.proofs.BehindForce.{busy, change_counts, change_ends, change_follows, change_goes, change_kept, failed_comes, failed_keeps, force_ends, is_up, keeps_refused, leaves_behind, look_follows, not_worn, number_behind, up_behind}
 use Rattle.volume_laws.proofs.MemoryLaws.{enough_behind, force_needs, keep_test_needs}
 use Rattle.volume_laws.proofs.StepLaws.{comes_more}
 use Rattle.volume_laws.proofs.TestedLaws.{keep_fits, keep_places, keep_refusals, keep_test_ends, keep_through}
@@ -68,8 +68,8 @@ returns-in_err-force_first-clause-order g c =
     let s = state c.args.self.now in
     let p = err_from_is_err_and c.from_residual-in_err-force_first.result c.from_residual-in_err-force_first.ensures.1 in
     rw (p.1, p.2) (record {
-      follows = failed_comes s (keep_refusals s c.args.keep) c.in_ok-may_keep.ensures c.in_err-force_first.field-0.0 c.in_err-force_first.ensures.keeps.forces.order;
-      idle = λ idle. absurd (busy s (keep_refusals s c.args.keep) c.in_ok-may_keep.ensures idle);
+      follows = failed_comes s (keep_refusals s c.args.keep) c.in_ok-may_keep.ensures look_follows c.in_err-force_first.field-0.0 c.in_err-force_first.ensures.keeps.forces.order;
+      idle = λ idle. absurd (busy s (keep_refusals s c.args.keep) c.in_ok-may_keep.ensures look_follows idle);
     })
 
 pub returns-in_err-force_first-clause-keeps : goal.returns-in_err-force_first-clause-keeps
@@ -78,7 +78,7 @@ returns-in_err-force_first-clause-keeps g c =
     let p = err_from_is_err_and c.from_residual-in_err-force_first.result c.from_residual-in_err-force_first.ensures.1 in
     rw (p.1, p.2) (record {
       state = c.in_err-force_first.ensures.keeps.forces.state;
-      kept = failed_keeps s (keep_refusals s c.args.keep) c.in_ok-may_keep.ensures c.in_err-force_first.field-0.0 (state c.force_first.new.self) c.in_err-force_first.ensures.keeps.forces.kept;
+      kept = failed_keeps s (keep_refusals s c.args.keep) c.in_ok-may_keep.ensures look_follows c.in_err-force_first.field-0.0 (state c.force_first.new.self) c.in_err-force_first.ensures.keeps.forces.kept;
     })
 
 pub returns-in_err-force_first-clause-disk : goal.returns-in_err-force_first-clause-disk
@@ -111,8 +111,8 @@ pub returns-clause-order : goal.returns-clause-order
 returns-clause-order g c =
     let s = state c.args.self.now in
     record {
-      follows = change_follows s (keep_refusals s c.args.keep) c.in_ok-may_keep.ensures (state c.force_first.new.self) (state c.keep_now.new.self) c.in_ok-force_first.ensures.keeps.forces c.keep_now.result c.keep_now.ensures.order;
-      idle = λ idle. absurd (busy s (keep_refusals s c.args.keep) c.in_ok-may_keep.ensures idle);
+      follows = change_follows s (keep_refusals s c.args.keep) c.in_ok-may_keep.ensures look_follows (state c.force_first.new.self) (state c.keep_now.new.self) c.in_ok-force_first.ensures.keeps.forces c.keep_now.result c.keep_now.ensures.order;
+      idle = λ idle. absurd (busy s (keep_refusals s c.args.keep) c.in_ok-may_keep.ensures look_follows idle);
     }
 
 pub returns-clause-keeps : goal.returns-clause-keeps
@@ -120,7 +120,7 @@ returns-clause-keeps g c =
     let s = state c.args.self.now in
     record {
       state = change_goes s (keep_refusals s c.args.keep) c.in_ok-may_keep.ensures (state c.force_first.new.self) (state c.keep_now.new.self) c.in_ok-force_first.ensures.keeps.forces c.keep_now.result c.keep_now.ensures.edited;
-      kept = change_kept s (keep_refusals s c.args.keep) c.in_ok-may_keep.ensures (state c.force_first.new.self) (state c.keep_now.new.self) c.in_ok-force_first.ensures.keeps.forces c.keep_now.result c.keep_now.ensures.order c.keep_now.ensures.edited;
+      kept = change_kept s (keep_refusals s c.args.keep) c.in_ok-may_keep.ensures look_follows (state c.force_first.new.self) (state c.keep_now.new.self) c.in_ok-force_first.ensures.keeps.forces c.keep_now.result c.keep_now.ensures.order c.keep_now.ensures.edited;
     }
 
 pub returns-clause-writes : goal.returns-clause-writes

@@ -13,6 +13,7 @@ use Rattle.volume_contract.specs.Order.{IsLookUp}
 use Rattle.volume_contract.specs.State.{volume_of}
 use Rattle.volume_laws.specs.Taken.{are_taken}
 use Rattle.volume_laws.specs.State.{resident, state}
+use Rattle.volume_laws.proofs.BehindLaws.{edited_layout, edited_slots, found_after, ok_so}
 use Rattle.volume_laws.proofs.ChangeEnds.{look_ended}
 use Rattle.volume_laws.proofs.DeleteEnds.{delete_none, keyed_ends, met_ended}
 use Rattle.volume_laws.proofs.EditedLaws.{causes_looked, edits_looked, follows_looked, state_looked}
@@ -37,10 +38,10 @@ returns-in_err-found-clause-edited g c =
     let p = err_from_is_err_and c.from_residual.result c.from_residual.ensures.1 in
     rw p.1 (state_looked c.args.self.now c.find.new.self c.in_err-found.ensures.looks.cache c.in_err-found.ensures.looks.dirty)
 
-pub returns-in_err-found-clause-causes : goal.returns-in_err-found-clause-causes
-returns-in_err-found-clause-causes g c =
+pub returns-in_err-found-clause-tells : goal.returns-in_err-found-clause-tells
+returns-in_err-found-clause-tells g c =
     let p = err_from_is_err_and c.from_residual.result c.from_residual.ensures.1 in
-    rw (p.1, p.2) c.in_err-found.ensures.looks.causes
+    rw (p.1, p.2) (record { causes = c.in_err-found.ensures.looks.causes; found = tt })
 
 pub returns-in_err-found-clause-done : goal.returns-in_err-found-clause-done
 returns-in_err-found-clause-done g c =
@@ -81,13 +82,16 @@ returns-in_err-entry-in-Some-clause-edited g c =
     let p = err_from_is_err_and c.from_residual-in_err-entry-in-Some.result c.from_residual-in_err-entry-in-Some.ensures.1 in
     rw p.1 (state_looked c.args.self.now c.find.new.self c.in_ok-found.ensures.looks.cache c.in_ok-found.ensures.looks.dirty)
 
-pub returns-in_err-entry-in-Some-clause-causes : goal.returns-in_err-entry-in-Some-clause-causes
-returns-in_err-entry-in-Some-clause-causes g c =
+pub returns-in_err-entry-in-Some-clause-tells : goal.returns-in_err-entry-in-Some-clause-tells
+returns-in_err-entry-in-Some-clause-tells g c =
     let p = err_from_is_err_and c.from_residual-in_err-entry-in-Some.result c.from_residual-in_err-entry-in-Some.ensures.1 in
     let w = c.args.self.now in
     let new = state c.find.new.self in
     rw (p.1, p.2)
-    (met_handed g.M.Machine (resident w) (state w) new c.args.m.now c.find.new.m c.find.new.self _ c.in-Some.found c.in-Some.is c.in_ok-found.ensures.looks.met (Err c.in_err-entry-in-Some.field-0.0) c.in_err-entry-in-Some.ensures)
+    (record {
+      causes = met_handed g.M.Machine (resident w) (state w) new c.args.m.now c.find.new.m c.find.new.self _ c.in-Some.found c.in-Some.is c.in_ok-found.ensures.looks.met (Err c.in_err-entry-in-Some.field-0.0) c.in_err-entry-in-Some.ensures;
+      found = tt;
+    })
 
 pub returns-in_err-entry-in-Some-clause-done : goal.returns-in_err-entry-in-Some-clause-done
 returns-in_err-entry-in-Some-clause-done g c = λ h k stands. absurd
@@ -110,10 +114,18 @@ pub returns-in_ok-entry-in-Some-clause-edited : goal.returns-in_ok-entry-in-Some
 returns-in_ok-entry-in-Some-clause-edited g c =
     edits_looked (state c.args.self.now) (state c.find.new.self) (state c.take_found.new.self) c.take_found.result (state_looked c.args.self.now c.find.new.self c.in_ok-found.ensures.looks.cache c.in_ok-found.ensures.looks.dirty) c.take_found.ensures.edited
 
-pub returns-in_ok-entry-in-Some-clause-causes : goal.returns-in_ok-entry-in-Some-clause-causes
-returns-in_ok-entry-in-Some-clause-causes g c =
-    causes_looked g.M.Machine (resident c.find.new.self) (resident c.args.self.now) (state c.args.self.now) (state c.find.new.self) (state c.take_found.new.self) c.args.m.now c.find.new.m c.take_found.new.m c.take_found.result
-    (state_looked c.args.self.now c.find.new.self c.in_ok-found.ensures.looks.cache c.in_ok-found.ensures.looks.dirty) c.take_found.ensures.order c.take_found.ensures.causes
+pub returns-in_ok-entry-in-Some-clause-tells : goal.returns-in_ok-entry-in-Some-clause-tells
+returns-in_ok-entry-in-Some-clause-tells g c =
+    let v = c.args.self.now in
+    let mid = c.find.new.self in
+    let new = c.take_found.new.self in
+    let looks = c.in_ok-found.ensures.looks in
+    let taken = c.take_found.ensures in
+    record {
+      causes = causes_looked g.M.Machine (resident mid) (resident v) (state v) (state mid) (state new) c.args.m.now c.find.new.m c.take_found.new.m c.take_found.result (state_looked v mid looks.cache looks.dirty) taken.order taken.causes;
+      found = ok_so c.take_found.result (found_after g.M.Machine (state v) (state mid) (state new) (resident v) c.args.m.now c.find.new.m c.take_found.new.m (edited_slots (state mid) (state new) c.take_found.result taken.edited)
+          (edited_layout (state mid) (state new) c.take_found.result taken.edited) taken.disk.trust.honest taken.disk.worn c.args.key.now _ c.in-Some.found c.in-Some.is c.in_ok-found.ensures.key c.in_ok-found.ensures.there);
+    }
 
 pub returns-in_ok-entry-in-Some-clause-done : goal.returns-in_ok-entry-in-Some-clause-done
 returns-in_ok-entry-in-Some-clause-done g c = λ h k stands.

@@ -1,0 +1,198 @@
+use Rattle.std.proofs.Common.{◌∷◌, ◌∙◌, List, inl, refl, subst, arith}
+use Rattle.std.proofs.lemmas.Result.{err_from_is_err_and}
+use Rattle.sector_disk.proofs.CallLaws.{reads_as_writes, told_up, writes_none, writes_then, writes_told}
+use Rattle.sector_disk.specs.Machine.{Wears}
+use Rattle.fsd_files.specs.Answers.{move_outcome}
+use Rattle.fsd_files.specs.Files.{Change}
+use Rattle.fsd_files.specs.declared.reply.Reply.TheVariants.{Moved}
+use Rattle.fsd_sound.specs.Lookups.{HasKey, LacksKey}
+use Rattle.fsd_sound.specs.Writes.{force_writes}
+use Rattle.volume_contract.specs.Ends.{device_of}
+use Rattle.volume_contract.specs.Order.{CallStep, Follows, by_itself}
+use Rattle.volume_contract.specs.State.{Leaves, change_len, volume_of}
+use Rattle.volume_laws.specs.Ending.{delete_tests, moving_steps}
+use Rattle.volume_laws.specs.State.{IsMemoryOf, resident, state}
+use Rattle.volume_laws.proofs.BehindLaws.{causes_behind, delete_causes, edited_layout, edited_slots, found_behind, ok_each_more}
+use Rattle.volume_laws.proofs.CauseLaws.{handed_cause}
+use Rattle.volume_laws.proofs.BehindForce.{busy, change_counts, change_ends, change_follows, change_goes, change_kept, failed_comes, failed_keeps, force_ends, is_up, keeps_refused, leaves_behind, move_follows, moving_same, not_worn, number_behind, up_behind}
+use Rattle.volume_laws.proofs.MoveCalls.{force_some, other_fault}
+use Rattle.volume_laws.proofs.StepLaws.{comes_more}
+use Rattle.volume_laws.proofs.TestedLaws.{delete_places, delete_refusals, delete_test_ends, delete_test_some, move_through}
+use Rattle.volume_laws.proofs.WrittenLaws.{leaves_still}
+use Rattle.volume_laws.proofs.ForceMomentLaws.{touches_none}
+use Rattle.volume_laws.proofs.StoreLaws.{touches_read}
+use Rattle.table_volume.proofs.files.VolumeFiles.move_to.Goals as goal
+
+-- ---- where a test refuses
+
+pub returns-in_err-may_change-clause-order : goal.returns-in_err-may_change-clause-order
+returns-in_err-may_change-clause-order g c =
+    let s = state c.args.self.now in
+    let p = err_from_is_err_and c.from_residual.result c.from_residual.ensures.1 in
+    rw (p.1, p.2) (record {
+      follows = comes_more (delete_tests s) (by_itself s ∷ (moving_steps s)) c.in_err-may_change.field-0.0 c.in_err-may_change.ensures;
+      idle = λ idle. refl;
+    })
+
+pub returns-in_err-may_change-clause-disk : goal.returns-in_err-may_change-clause-disk
+returns-in_err-may_change-clause-disk g c =
+    let v = c.args.self.now in
+    let at = c.args.m.now in
+    writes_told (told_up device_of c.from_residual.result c.in_err-may_change.field-0.0 c.from_residual.ensures.1 ∙ delete_places (state v) c.in_err-may_change.field-0.0 c.in_err-may_change.ensures)
+    (writes_none at (λ left h is. g.met.M.Machine.only_now at left h is) (Leaves state IsMemoryOf v (force_writes v.layout)) (λ h. leaves_still v (g.M.Machine.now at) (force_writes v.layout)))
+
+pub returns-in_err-may_change-clause-writes : goal.returns-in_err-may_change-clause-writes
+returns-in_err-may_change-clause-writes g c =
+    let p = err_from_is_err_and c.from_residual.result c.from_residual.ensures.1 in
+    rw (p.1, p.2) (record {
+      rest = λ h. touches_none (force_writes c.args.self.now.layout) (g.M.Machine.now c.args.m.now);
+      counted = λ tells. (omega arith, omega arith);
+    })
+
+pub returns-in_err-may_change-clause-keeps : goal.returns-in_err-may_change-clause-keeps
+returns-in_err-may_change-clause-keeps g c =
+    let s = state c.args.self.now in
+    let p = err_from_is_err_and c.from_residual.result c.from_residual.ensures.1 in
+    rw (p.1, p.2) (record {
+      state = record { layout = refl; epoch = refl; unfinished = refl; readers = refl; down = inl refl };
+      kept = keeps_refused (delete_refusals s) (by_itself s ∷ (moving_steps s)) c.in_err-may_change.field-0.0 s c.in_err-may_change.ensures;
+    })
+
+pub returns-in_err-may_change-clause-done : goal.returns-in_err-may_change-clause-done
+returns-in_err-may_change-clause-done g c =
+    let p = err_from_is_err_and c.from_residual.result c.from_residual.ensures.1 in
+    rw (p.1, p.2) (λ h k stands. delete_test_ends (λ met. move_outcome met (volume_of k) c.args.key.now c.args.name.now) (Moved c.args.key.now) (Change.Move c.args.key.now c.args.name.now) c.args.self.now k (g.M.Machine.now c.args.m.now) c.in_err-may_change.field-0.0 stands c.in_err-may_change.ensures)
+
+-- ---- where the force fails
+
+pub returns-in_err-force_first-clause-order : goal.returns-in_err-force_first-clause-order
+returns-in_err-force_first-clause-order g c =
+    let s = state c.args.self.now in
+    let p = err_from_is_err_and c.from_residual-in_err-force_first.result c.from_residual-in_err-force_first.ensures.1 in
+    rw (p.1, p.2) (record {
+      follows = failed_comes s (delete_refusals s) c.in_ok-may_change.ensures (move_follows s) c.in_err-force_first.field-0.0 c.in_err-force_first.ensures.keeps.forces.order;
+      idle = λ idle. absurd (busy s (delete_refusals s) c.in_ok-may_change.ensures (move_follows s) idle);
+    })
+
+pub returns-in_err-force_first-clause-keeps : goal.returns-in_err-force_first-clause-keeps
+returns-in_err-force_first-clause-keeps g c =
+    let s = state c.args.self.now in
+    let p = err_from_is_err_and c.from_residual-in_err-force_first.result c.from_residual-in_err-force_first.ensures.1 in
+    rw (p.1, p.2) (record {
+      state = c.in_err-force_first.ensures.keeps.forces.state;
+      kept = failed_keeps s (delete_refusals s) c.in_ok-may_change.ensures (move_follows s) c.in_err-force_first.field-0.0 (state c.force_first.new.self) c.in_err-force_first.ensures.keeps.forces.kept;
+    })
+
+pub returns-in_err-force_first-clause-disk : goal.returns-in_err-force_first-clause-disk
+returns-in_err-force_first-clause-disk g c =
+    writes_told (told_up device_of c.from_residual-in_err-force_first.result c.in_err-force_first.field-0.0 c.from_residual-in_err-force_first.ensures.1) c.in_err-force_first.ensures.disk
+
+pub returns-in_err-force_first-clause-writes : goal.returns-in_err-force_first-clause-writes
+returns-in_err-force_first-clause-writes g c =
+    let failed = c.in_err-force_first.ensures in
+    let p = err_from_is_err_and c.from_residual-in_err-force_first.result c.from_residual-in_err-force_first.ensures.1 in
+    rw (p.1, p.2) (record { rest = failed.writes.rest; counted = failed.writes.counted })
+
+pub returns-in_err-force_first-clause-done : goal.returns-in_err-force_first-clause-done
+returns-in_err-force_first-clause-done g c =
+    let p = err_from_is_err_and c.from_residual-in_err-force_first.result c.from_residual-in_err-force_first.ensures.1 in
+    rw (p.1, p.2) (λ h k stands.
+    force_ends (λ met. move_outcome met (volume_of k) c.args.key.now c.args.name.now) (Moved c.args.key.now) (Change.Move c.args.key.now c.args.name.now) k c.force_first.new.self (g.M.Machine.now c.force_first.new.m) c.in_err-force_first.field-0.0 (c.in_err-force_first.ensures.done h k stands))
+
+-- ---- behind it
+
+pub move_now-requires-clause-up : goal.move_now-requires-clause-up
+move_now-requires-clause-up g c =
+    up_behind (state c.args.self.now) (delete_refusals (state c.args.self.now)) c.in_ok-may_change.ensures (state c.force_first.new.self) (state c.force_first.new.self) c.in_ok-force_first.ensures.keeps.forces (is_up c.args.self.now.down c.in_ok-may_change.ensures.0)
+
+pub move_now-requires-clause-numbered : goal.move_now-requires-clause-numbered
+move_now-requires-clause-numbered g c =
+    number_behind (state c.args.self.now) (delete_refusals (state c.args.self.now)) c.in_ok-may_change.ensures (state c.force_first.new.self) (state c.force_first.new.self) c.in_ok-force_first.ensures.keeps.forces (not_worn (state c.args.self.now) c.in_ok-may_change.ensures.1.0)
+
+pub returns-clause-order : goal.returns-clause-order
+returns-clause-order g c =
+    let s = state c.args.self.now in
+    record {
+      follows = change_follows s (delete_refusals s) c.in_ok-may_change.ensures (move_follows s) (state c.force_first.new.self) (state c.move_now.new.self) c.in_ok-force_first.ensures.keeps.forces c.move_now.result (subst (λ (steps : List CallStep). Follows steps c.move_now.result) (moving_same s (state c.force_first.new.self) c.in_ok-force_first.ensures.keeps.forces) c.move_now.ensures.order);
+      idle = λ idle. absurd (busy s (delete_refusals s) c.in_ok-may_change.ensures (move_follows s) idle);
+    }
+
+pub returns-clause-keeps : goal.returns-clause-keeps
+returns-clause-keeps g c =
+    let s = state c.args.self.now in
+    record {
+      state = change_goes s (delete_refusals s) c.in_ok-may_change.ensures (state c.force_first.new.self) (state c.move_now.new.self) c.in_ok-force_first.ensures.keeps.forces c.move_now.result c.move_now.ensures.edited;
+      kept = change_kept s (delete_refusals s) c.in_ok-may_change.ensures (move_follows s) (state c.force_first.new.self) (state c.move_now.new.self) c.in_ok-force_first.ensures.keeps.forces c.move_now.result (subst (λ (steps : List CallStep). Follows steps c.move_now.result) (moving_same s (state c.force_first.new.self) c.in_ok-force_first.ensures.keeps.forces) c.move_now.ensures.order) c.move_now.ensures.edited;
+    }
+
+pub returns-clause-writes : goal.returns-clause-writes
+returns-clause-writes g c =
+    let M = g.M.Machine in
+    let v = c.args.self.now in
+    let first = c.in_ok-force_first.ensures in
+    let reads = c.move_now.ensures.disk in
+    record {
+      rest = λ h.
+          let back = reads.trust.honest h in
+          touches_read (force_writes v.layout) (M.now c.args.m.now) (M.now c.force_first.new.m) (M.now c.move_now.new.m) (first.disk.windows back) (first.writes.rest back) (reads.worn h);
+      counted = λ tells. change_counts (change_len (state v)) (M.ledger c.args.m.now) (M.ledger c.force_first.new.m) (M.ledger c.move_now.new.m) c.move_now.result (first.writes.counted (reads.trust.tells tells)) (reads.ledger tells);
+    }
+
+pub returns-clause-disk : goal.returns-clause-disk
+returns-clause-disk g c =
+    let M = g.M.Machine in
+    let v = c.args.self.now in
+    let mid = c.force_first.new.self in
+    let old = M.now c.args.m.now in
+    let now = M.now c.force_first.new.m in
+    let first = c.in_ok-force_first.ensures.disk in
+    let reads = c.move_now.ensures.disk in
+    writes_then {Q = Wears} first (reads_as_writes {R = Wears} reads (λ h left wears. wears)) (λ h left leaves. leaves) (λ h left wears.
+    let back = reads.trust.honest h in
+    leaves_behind v mid old now left (g.met.M.Machine.short c.force_first.new.m back) (first.windows back) (first.quiet back) (c.in_ok-force_first.ensures.done back) (first.exit back) wears)
+
+pub returns-clause-done : goal.returns-clause-done
+returns-clause-done g c = λ h k stands.
+    let back = c.move_now.ensures.disk.trust.honest h in
+    let p = c.in_ok-force_first.ensures.done back k stands in
+    change_ends (λ v met. move_outcome met v c.args.key.now c.args.name.now) (Moved c.args.key.now) (Change.Move c.args.key.now c.args.name.now) k c.force_first.new.self (g.M.Machine.now c.force_first.new.m) p (move_through c.args.key.now c.args.name.now (volume_of k)) c.in_ok-force_first.ensures.keeps.few c.move_now.new.self (g.M.Machine.now c.move_now.new.m) c.move_now.result
+    (c.move_now.ensures.done h p.after p.stands)
+
+-- ---- why it tells something as lost or as unsound
+
+pub returns-in_err-may_change-clause-tells : goal.returns-in_err-may_change-clause-tells
+returns-in_err-may_change-clause-tells g c =
+    let v = c.args.self.now in
+    let p = err_from_is_err_and c.from_residual.result c.from_residual.ensures.1 in
+    record {
+      causes = delete_causes g.M.Machine (state v) (resident v) c.args.m.now c.from_residual.result c.in_err-may_change.field-0.0 c.from_residual.ensures.1 c.in_err-may_change.ensures;
+      named = rw p.1 tt;
+      absent = other_fault c.from_residual.result c.in_err-may_change.field-0.0 c.from_residual.ensures.1 (delete_test_some (state v) c.in_err-may_change.field-0.0 c.in_err-may_change.ensures);
+      found = rw p.1 tt;
+    }
+
+pub returns-in_err-force_first-clause-tells : goal.returns-in_err-force_first-clause-tells
+returns-in_err-force_first-clause-tells g c =
+    let v = c.args.self.now in
+    let p = err_from_is_err_and c.from_residual-in_err-force_first.result c.from_residual-in_err-force_first.ensures.1 in
+    record {
+      causes = handed_cause g.M.Machine (resident v) (state v) (state c.force_first.new.self) c.args.m.now c.force_first.new.m c.in_err-force_first.field-0.0 c.from_residual-in_err-force_first.result c.from_residual-in_err-force_first.ensures.1 c.in_err-force_first.ensures.tells.causes;
+      named = rw p.1 tt;
+      absent = other_fault c.from_residual-in_err-force_first.result c.in_err-force_first.field-0.0 c.from_residual-in_err-force_first.ensures.1 (force_some (state v) c.in_err-force_first.field-0.0 c.in_err-force_first.ensures.keeps.forces.order);
+      found = rw p.1 tt;
+    }
+
+pub returns-clause-tells : goal.returns-clause-tells
+returns-clause-tells g c =
+    let v = c.args.self.now in
+    let mid = c.force_first.new.self in
+    let new = c.move_now.new.self in
+    let change = c.move_now.ensures in
+    let slots = edited_slots (state mid) (state new) c.move_now.result change.edited in
+    let layout = edited_layout (state mid) (state new) c.move_now.result change.edited in
+    record {
+      causes = causes_behind g.M.Machine (state v) (state mid) (state new) (resident v) (resident mid) c.args.m.now c.force_first.new.m c.move_now.new.m (λ h. c.in_ok-force_first.ensures.tells.behind (change.disk.trust.honest h)) slots layout change.disk.worn c.move_now.result change.tells.causes;
+      named = change.tells.named;
+      absent = λ none. found_behind g.M.Machine (state v) (state mid) (state new) (resident v) (resident mid) c.args.m.now c.force_first.new.m c.move_now.new.m (λ h. c.in_ok-force_first.ensures.tells.behind (change.disk.trust.honest h)) slots layout change.disk.worn (LacksKey c.args.key.now) (change.tells.absent none);
+      found = ok_each_more c.move_now.result (found_behind g.M.Machine (state v) (state mid) (state new) (resident v) (resident mid) c.args.m.now c.force_first.new.m c.move_now.new.m (λ h. c.in_ok-force_first.ensures.tells.behind (change.disk.trust.honest h)) slots layout change.disk.worn (HasKey c.args.key.now)) change.tells.found;
+    }
