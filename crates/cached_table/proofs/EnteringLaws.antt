@@ -44,13 +44,13 @@ use Rattle.cached_table.proofs.RefusalLaws.{outer_cases}
 -- ---- what holds of the table
 
 -- the number of a version that is planned is one
-pub is_usable : {D : Type 0} (P : Ghosts D) (old now new : D) (name : List ℕ) (given : Option ℕ) (plan : Plan) → plan.key.version < 2 ^ 32 → (P.trusted new → P.trusted now) → OfTable P old now (λ table. IsPlan name given table plan)
-    → OfTable P old new (λ table. (next_key name table).version ≤ max_u32)
-is_usable P old now new name given plan small trust planned trusted height tree = omega (arith, small, ap (λ (k : Key). k.version) (planned (trust trusted) height tree).key)
+pub is_usable : {D : Type 0} (P : Ghosts D) (old now : D) (name : List ℕ) (given : Option ℕ) (plan : Plan) → plan.key.version < 2 ^ 32 → OfTable P old now (λ table. IsPlan name given table plan)
+    → OfTable P old now (λ table. (next_key name table).version ≤ max_u32)
+is_usable P old now name given plan small planned trusted height tree = omega (arith, small, ap (λ (k : Key). k.version) (planned trusted height tree).key)
 
--- where fewer pages are not spare, so many are
-pub spare_enough : (now free : ℕ) → now ≡ free → (now < 8 → ⊥) → 8 ≤ free
-spare_enough now free same none = elim (cases_lt now 8) [ inl few ↦ absurd (none few) | inr enough ↦ omega (arith, same, enough) ]
+-- where not fewer pages are spare, so many are
+pub spare_enough : (free : ℕ) → (free < 8 → ⊥) → 8 ≤ free
+spare_enough free none = elim (cases_lt free 8) [ inl few ↦ absurd (none few) | inr enough ↦ enough ]
 
 -- as many pages may be changed as before
 pub changes_stay : {D : Type 0} (P : Ghosts D) {refusal : Option Refusal} (old now : D) → OnlyWalks P refusal old now → changes (P.step now) ≡ changes (P.step old)

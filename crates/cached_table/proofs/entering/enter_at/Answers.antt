@@ -111,4 +111,4 @@ returns-in-Err-enter_planned-clause-refused g c =
     let small : c.in-Ok.plan.key.version < 2 ^ 32 = search rules in
     let refuses = subst (λ (gone : List Leaving). RefusesPlanned P map w c.args.home_a gone now new c.in-Err-enter_planned.refusal) c.as_slice.ensures.value c.in-Err-enter_planned.ensures.refused in
     refused_behind P g.met.T.Pages.then map w name (HasNoNumber name) c.args.home_a a now new plan.gone.items c.in-Err-enter_planned.refusal e.walks e.formed.met (λ trusted height tree. (keys_left plan, (e.planned trusted height tree).entries))
-    (is_usable P a now now name c.args.given plan small (λ t. t) e.planned) refuses
+    (is_usable P a now name c.args.given plan small e.planned) refuses
