@@ -110,7 +110,7 @@ returns-in_err-met_entry-in-Some-clause-tells g c =
     record {
       named = rw p.1 tt;
       causes = rw (p.1, p.2)
-      (met_handed g.M.Machine (resident v) (state v) (state c.find.new.self) c.args.m.now c.find.new.m c.find.new.self _ c.in-Some.found c.in-Some.is c.in_ok-found.ensures.looks.met (Err why) c.in_err-met_entry-in-Some.ensures);
+          (met_handed g.M.Machine (resident v) (state v) (state c.find.new.self) c.args.m.now c.find.new.m c.find.new.self _ c.in-Some.found c.in-Some.is c.in_ok-found.ensures.looks.met (Err why) c.in_err-met_entry-in-Some.ensures);
       absent = other_fault r.result why r.ensures.1 (look_some why (subst IsLookUp (sym met.0) tt));
       found = rw p.1 tt;
     }
