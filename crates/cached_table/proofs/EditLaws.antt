@@ -1,11 +1,8 @@
 -- What a table over a cache leaves where it was edited.
-use Rattle.std.proofs.Common.{◌≡◌, ℕ, ◌+◌, ◌-◌, ◌<◌, ◌≤◌, Bool, List, length, Option, None, sym, ap, subst, ◌∙◌, arith}
+use Rattle.std.proofs.Common.{◌≡◌, ℕ, ◌+◌, ◌-◌, ◌≤◌, Bool, List, length, Option, None, sym, ap, subst, ◌∙◌, arith}
 use Rattle.std.specs.Prelude.{Result, Ok, Err, IfErr, IfOk, OnErr, OnOk, count_by}
 use Rattle.std.specs.Borrow.{MutBor}
 use Rattle.fsd_bytes.specs.declared.key.Key.{Key}
-use Rattle.fsd_bytes.specs.Keys.{max_u32}
-use Rattle.sector_set.specs.Area.{Area}
-use Rattle.shadow_frees.specs.Waits.{Waits}
 use Rattle.fsd_files.specs.Answers.{entries_with_keep, highest_entry}
 use Rattle.fsd_bytes.specs.declared.refusal.Refusal.{Refusal}
 use Rattle.fsd_formats.specs.declared.entry.Entry.{Entry}
@@ -29,9 +26,8 @@ use Rattle.cached_table.specs.Editing.{ChangesNone, ChangesOne, DirtiesAtMost, D
 use Rattle.cached_table.specs.Looking.{FaultIn, images_by, BarsPages}
 use Rattle.cached_table.proofs.LeftLaws.{clean_left, fills_left, images_left, loses_left, reads_left, ready_left, trusted_left}
 use Rattle.cached_table.proofs.LookLaws.{fault_there}
-use Rattle.cached_table.specs.Entering.{EntersNoneIn, LosesUntaken, OfTableIn, RefusesFor}
-use Rattle.cached_table.proofs.EnteringLaws.{refuses_so}
-use Rattle.version_table.specs.Versions.{next_key}
+use Rattle.cached_table.specs.Entering.{OfTableIn, RefusesFor}
+use Rattle.cached_table.proofs.EnteringLaws.{NoneIn, refuses_so}
 
 same_entries : (a b : Step) (table : List Entry) → b.images ≡ a.images → b.spares ≡ a.spares → HasTable a table → HasTable b table
 same_entries a b table images spares has = record {
@@ -81,7 +77,7 @@ module _ {D E : Type 0} {M : MachineGhosts D} {S : SourceGhosts E} where
     }
 
     -- what was made
-    made : (edit : List Entry → List Entry) → (Trusted b → (height : ℕ) → IsTable (step_of a) height → HasTable (step_of b) (edit (table_of (step_of a).images height)))
+    pub made : (edit : List Entry → List Entry) → (Trusted b → (height : ℕ) → IsTable (step_of a) height → HasTable (step_of b) (edit (table_of (step_of a).images height)))
         → EditsTable M S source m.now m' cache.now cache' free.now free' edit
     made edit makes = record {
       makes = λ t height table.
@@ -177,15 +173,14 @@ module _ {D E : Type 0} {M : MachineGhosts D} {S : SourceGhosts E} where
     of_so Is (Ok x) h = of_left (Is x) h
 
     -- why no version was entered
-    pub refuses_left : {T : Type 0} (map : Area) (w : Waits) (name : List ℕ) (r : Result T Refusal)
-        → IfErr r (RefusesFor (Trusted b → (page : ℕ) × BarsTable (step_of b) page) (Trusted b → (height : ℕ) → IsTree (step_of a).images height → LosesUntaken map w (table_of (step_of a).images height))
-        (Trusted b → (height : ℕ) → IsTree (step_of a).images height → max_u32 < (next_key name (table_of (step_of a).images height)).version)
-        (Trusted b → (height : ℕ) → IsTree (step_of a).images height → (next_key name (table_of (step_of a).images height)).version ≤ max_u32) (spare_count (step_of a)))
-        → IfErr r (EntersNoneIn M S source map w name m.now m' cache.now cache' free.now free')
-    refuses_left map w name (Ok x) none = tt
-    refuses_left map w name (Err why) none = record {
-      cause = refuses_so (spare_count (step_of a)) (count_by (λ spare. spare) free.now) (ap spare_count begins) barred
-          (of_left (LosesUntaken map w)) (of_left (λ table. max_u32 < (next_key name table).version)) (of_left (λ table. (next_key name table).version ≤ max_u32)) why none;
+    pub refuses_left : {T : Type 0} (Untaken UsedUp Usable : List Entry → Type 0) (r : Result T Refusal)
+        → IfErr r (RefusesFor (Trusted b → (page : ℕ) × BarsTable (step_of b) page) (Trusted b → (height : ℕ) → IsTree (step_of a).images height → Untaken (table_of (step_of a).images height))
+        (Trusted b → (height : ℕ) → IsTree (step_of a).images height → UsedUp (table_of (step_of a).images height))
+        (Trusted b → (height : ℕ) → IsTree (step_of a).images height → Usable (table_of (step_of a).images height)) (spare_count (step_of a)))
+        → IfErr r (NoneIn M S source Untaken UsedUp Usable m.now m' cache.now cache' free.now free')
+    refuses_left Untaken UsedUp Usable (Ok x) none = tt
+    refuses_left Untaken UsedUp Usable (Err why) none = record {
+      cause = refuses_so (spare_count (step_of a)) (count_by (λ spare. spare) free.now) (ap spare_count begins) barred (of_left Untaken) (of_left UsedUp) (of_left Usable) why none;
     }
       where
         barred : (Trusted b → (page : ℕ) × BarsTable (step_of b) page) → IsTrusted M S source m.now cache.now m' → (page : ℕ) × BarsPages (images_by M S source m' cache' (length free')) free' page

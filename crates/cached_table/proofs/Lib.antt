@@ -6,6 +6,7 @@ pub mod HomeReadLaws
 pub mod LeftLaws
 pub mod LookLaws
 pub mod MetLaws
+pub mod MovingLaws
 pub mod OpeningLaws
 pub mod RefusalLaws
 pub mod PathLaws

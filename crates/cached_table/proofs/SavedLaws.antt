@@ -1,7 +1,6 @@
 -- A saved map and its counts are those that a survey of the table gives.
 use Rattle.std.proofs.Common.{◌≡◌, ℕ, ◌+◌, ◌-◌, ◌<◌, Bool, true, false, not, List, length, map, Some, refl, sym, ap, subst, ◌∙◌, arith}
 use Rattle.std.specs.Prelude.{count_by, slice_index_or}
-use Rattle.std.specs.List.{slice_get}
 use Rattle.std.proofs.lemmas.Bool.{and_from, le-leb, lt-ltb}
 use Rattle.std.proofs.lemmas.List.{get_or-map, length-map}
 use Rattle.std.proofs.lemmas.Option.{slice_get-get_or}
@@ -13,7 +12,7 @@ use Rattle.sector_set.specs.Area.{area}
 use Rattle.sector_set.proofs.FreeLaws.{where_same}
 use Rattle.fsd_formats.specs.SavedMap.{MapCounts, is_set_in}
 use Rattle.fsd_table.specs.Breaks.{Breaks}
-use Rattle.fsd_table.specs.Table.{Telling, told_in, top, visits}
+use Rattle.fsd_table.specs.Table.{Telling, top, visits}
 use Rattle.fsd_table.specs.Tree.{IsTree, pages_of, table_of}
 use Rattle.fsd_table.proofs.TreeLaws.{told_tree}
 use Rattle.fsd_table.proofs.VisitLaws.{tree_told}

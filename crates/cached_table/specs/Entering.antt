@@ -66,10 +66,11 @@ AreIdleInTurn w (g ∷ gone) = (AreIdle w g.entry.runs × All (IsSameOrApart g.e
 
 -- ---- why none is entered
 
--- the refusal that a fault of a plan is
+-- The refusal that a fault of a plan is. A move comes behind a look-up of its version: pages that lack it since have no
+-- number left for one. No other plan tells NoSuch.
 abbrev pub plan_refusal : (home_a : ℕ) → VersionFault → Refusal
 plan_refusal home_a (Table fault) = refusal_in home_a fault
-plan_refusal home_a NoSuch = Why.NoSuch
+plan_refusal home_a NoSuch = Why.VersionsUsedUp
 plan_refusal home_a VersionsUsedUp = Why.VersionsUsedUp
 
 -- versions of the table are to go whose sectors aren't taken so
@@ -90,6 +91,11 @@ TellsUntaken home_a map w gone (Why.Unsound s) = (g : Leaving) × Contains gone 
 TellsUntaken home_a map w gone Why.VersionsUsedUp = ⊤
 TellsUntaken home_a map w gone other = ⊥
 
+-- so it is told as unsound
+abbrev pub ShowsUntaken : (home_a : ℕ) → Area → Waits → List Leaving → Refusal → Type 0
+ShowsUntaken home_a map w gone (Why.Unsound s) = (g : Leaving) × Contains gone g × (s ≡ home_in home_a g.page) × (AreTaken map w g.entry.runs → ⊥)
+ShowsUntaken home_a map w gone other = ⊤
+
 -- A refusal came from outside; or a page breaks the table, or is spare and reached, or versions go that are not taken;
 -- or the numbers of the name are used up; or fewer pages are spare than are asked for, where they aren't.
 abbrev pub RefusesFor : (Barred Untaken UsedUp Usable : Type 0) → (free : ℕ) → Refusal → Type 0
@@ -101,10 +107,14 @@ RefusesFor Barred Untaken UsedUp Usable free Why.VersionsUsedUp = UsedUp ⊎ (Ba
 RefusesFor Barred Untaken UsedUp Usable free (Why.NameTableFull n) = (n ≡ free) × (n < 8) × Usable
 RefusesFor Barred Untaken UsedUp Usable free other = ⊥
 
+-- the name has no number left
+abbrev pub HasNoNumber : (name : List ℕ) → List Entry → Type 0
+HasNoNumber name table = max_u32 < (next_key name table).version
+
 -- so it is over pages
-abbrev pub EntersNone : {D : Type 0} (P : Ghosts D) → Area → Waits → (name : List ℕ) → (free : ℕ) → (old new : D) → Refusal → Type 0
-EntersNone P map w name free old new = RefusesFor (P.trusted new → (page : ℕ) × BarsTable (P.step new) page) (OfTable P old new (LosesUntaken map w))
-    (OfTable P old new (λ table. max_u32 < (next_key name table).version)) (OfTable P old new (λ table. (next_key name table).version ≤ max_u32)) free
+abbrev pub EntersNone : {D : Type 0} (P : Ghosts D) → Area → Waits → (name : List ℕ) → (UsedUp : List Entry → Type 0) → (free : ℕ) → (old new : D) → Refusal → Type 0
+EntersNone P map w name UsedUp free old new = RefusesFor (P.trusted new → (page : ℕ) × BarsTable (P.step new) page) (OfTable P old new (LosesUntaken map w))
+    (OfTable P old new UsedUp) (OfTable P old new (λ table. (next_key name table).version ≤ max_u32)) free
 
 -- What was reached shows why a place is told as unsound: a page of a look-up breaks the table, or is on the way and
 -- barred; or a version that goes was met, and its sectors aren't taken.
@@ -143,18 +153,28 @@ module _ {D E : Type 0} (M : MachineGhosts D) (S : SourceGhosts E) (source : E) 
 
 -- ---- what an entry makes, and why none is made
 
+-- These versions have taken sectors, and this is made of the table.
+pub record EntersPlanned {D : Type 0} (P : Ghosts D) (map : Area) (w : Waits) (freed : List Leaving) (edit : List Entry → List Entry) (old new : D) : Type 0 where
+  pub taken : AreInTurn map w [] freed
+  pub room : 8 ≤ spare_count (P.step old)
+  pub entered : MakesTable P old new edit
+
+-- Pages were reached, and nothing else, until it was refused: these versions have no taken sectors, or an edit failed.
+pub record RefusesPlanned {D : Type 0} (P : Ghosts D) (map : Area) (w : Waits) (home_a : ℕ) (freed : List Leaving) (old new : D) (refusal : Refusal) : Type 0 where
+  pub kept : OnlyWalks P (outer_refusal refusal) old new
+  pub fault : RefusesFor (P.trusted new → (page : ℕ) × BarsTable (P.step new) page) (AreInTurn map w [] freed → ⊥) ⊥ ⊤ (spare_count (P.step old)) refusal
+  pub shown : ShowsUntaken home_a map w freed refusal
+
 -- A version is planned for a name and comes into the table, with the entry of a draft; what goes has taken sectors.
 pub record EntersAt {D : Type 0} (P : Ghosts D) (map : Area) (w : Waits) (name : List ℕ) (given : Option ℕ) (draft : Entry) (old new : D) (plan : Plan) : Type 0 where
   pub name_is : plan.key.name ≡ name
   pub planned : OfTable P old new (λ table. IsPlan name given table plan)
-  pub taken : AreInTurn map w [] plan.gone.items
-  pub room : 8 ≤ spare_count (P.step old)
-  pub entered : MakesTable P old new (with_planned plan (planned_entry plan draft.serial draft.length draft.runs))
+  pub made : EntersPlanned P map w plan.gone.items (with_planned plan (planned_entry plan draft.serial draft.length draft.runs)) old new
 
 -- Pages were reached, and nothing else, until it was refused, for a cause; what was reached shows it.
-pub record RefusesAt {D : Type 0} (P : Ghosts D) (map : Area) (w : Waits) (name : List ℕ) (home_a : ℕ) (old new : D) (refusal : Refusal) : Type 0 where
+pub record RefusesAt {D : Type 0} (P : Ghosts D) (map : Area) (w : Waits) (name : List ℕ) (UsedUp : List Entry → Type 0) (home_a : ℕ) (old new : D) (refusal : Refusal) : Type 0 where
   pub kept : OnlyWalks P (outer_refusal refusal) old new
-  pub fault : EntersNone P map w name (spare_count (P.step old)) old new refusal
+  pub fault : EntersNone P map w name UsedUp (spare_count (P.step old)) old new refusal
   pub shown : ShowsRefusal P map w name home_a old new refusal
 
 module _ {D E : Type 0} (M : MachineGhosts D) (S : SourceGhosts E) (source : E) where

@@ -7,6 +7,8 @@ use Rattle.fsd_files.specs.Answers.{entry_of}
 use Rattle.sector_set.specs.Area.{Area}
 use Rattle.sector_disk.specs.declared.machine.Machine.{Ghosts as MachineGhosts}
 use Rattle.shadow_frees.specs.Waits.{Waits}
+use Rattle.fsd_formats.specs.declared.entry.Entry.{Entry}
+use Rattle.name_page.specs.declared.pages.Pages.{Ghosts}
 use Rattle.name_page.specs.Pages.{outer_refusal}
 use Rattle.page_cache.specs.declared.source.PageSource.{Ghosts as SourceGhosts}
 use Rattle.page_cache.specs.Cache.{CacheValue}
@@ -15,10 +17,25 @@ use Rattle.version_table.specs.declared.oldest.Leaving.{Leaving}
 use Rattle.version_table.specs.declared.planning.Plan.{Plan}
 use Rattle.version_table.specs.Moving.{IsMovePlan}
 use Rattle.version_table.specs.Plan.{planned_entry, with_planned}
+use Rattle.version_table.specs.Table.{OfTable}
 use Rattle.version_table.specs.Versions.{next_key}
 use Rattle.cached_table.specs.Editing.{EditsTable, StaysInCache}
-use Rattle.cached_table.specs.Entering.{AreInTurn, LosesUntaken, OfTableIn, RefusesFor, ShowsUnsound}
+use Rattle.cached_table.specs.Entering.{AreInTurn, EntersPlanned, HasNoNumber, LosesUntaken, OfTableIn, RefusesFor, ShowsUnsound}
 use Rattle.cached_table.specs.Looking.{BarsPages, LooksOnly, images_by}
+
+-- the name has no number left, or the table no version of this key
+abbrev pub LacksNumber : (key : Key) → (name : List ℕ) → List Entry → Type 0
+LacksNumber key name table = HasNoNumber name table ⊎ (entry_of key table ≡ None)
+
+-- A move of a version is planned and made, with its serial, length and runs; what else goes has taken sectors.
+pub record MovesAt {D : Type 0} (P : Ghosts D) (map : Area) (w : Waits) (key : Key) (name : List ℕ) (old new : D) (plan : Plan) : Type 0 where
+  pub name_is : plan.key.name ≡ name
+  pub moved : Leaving
+  pub others : List Leaving
+  pub goes : plan.gone.items ≡ moved ∷ others
+  pub of_key : moved.entry.key ≡ key
+  pub planned : OfTable P old new (λ table. IsMovePlan key name table plan)
+  pub made : EntersPlanned P map w others (with_planned plan (planned_entry plan moved.entry.serial moved.entry.length moved.entry.runs)) old new
 
 module _ {D E : Type 0} (M : MachineGhosts D) (S : SourceGhosts E) (source : E) where
   -- A version of this key comes under the name's next one, with its serial, length and runs; what else goes has taken

@@ -1,7 +1,7 @@
 //! Versions that are entered into a table over a cache.
-ghost use Rattle.std.specs.Prelude.{◌≡◌, ◌↔◌, ◌+◌, ◌<◌, ◌≤◌, ◌^◌, [], IfErr, IfOk, IfSome, IsNone, IsSome, IsTrue, length};
+ghost use Rattle.std.specs.Prelude.{◌≡◌, ◌↔◌, ◌+◌, ◌<◌, ◌≤◌, ◌^◌, [], IfErr, IfOk, IfSome, IsNone, IsSome, IsTrue, OnOk, length};
 ghost use Rattle.std.specs.List.{AllByRecursion};
-ghost use Rattle.fsd_formats.specs.NamePage.{is_entry};
+ghost use Rattle.fsd_formats.specs.NamePage.{is_entry, FitsEntry};
 ghost use Rattle.name_page.specs.declared.pages.TheConstants.{MOST_CHANGED, MOST_REACHED};
 ghost use Rattle.group_commit.specs.Cached.{AreWaiting};
 ghost use Rattle.name_page.specs.Looks.{ChangesPages, OnlyEdits};
@@ -9,7 +9,9 @@ ghost use Rattle.name_page.specs.Pages.{changes, outer_in};
 ghost use Rattle.run_table.specs.RunTable.{FitsRun};
 ghost use Rattle.table_pages.specs.Kept.{IsReady};
 ghost use Rattle.cached_table.specs.Editing.{DirtiesAtMost, EditsOnly};
-ghost use Rattle.cached_table.specs.Entering.{AreInTurn, AreTaken, EntersAt, EntersIn, RefusesAt, RefusesIn, TellsUntaken, enter_refusal, plan_refusal, share};
+ghost use Rattle.cached_table.specs.Entering.{AreInTurn, AreTaken, EntersAt, EntersIn, EntersPlanned, HasNoNumber, RefusesAt, RefusesIn, RefusesPlanned, TellsUntaken, enter_refusal, plan_refusal, share};
+ghost use Rattle.version_table.specs.Plan.{IsPlanReady, planned_entry, with_planned};
+ghost use Rattle.version_table.specs.Table.{OfTable};
 
 use crate::CachedTable;
 use crate::looking::table_refusal;
@@ -37,14 +39,14 @@ fn enter_refusal(fault: TreeFault) -> Refusal
     }
 }
 
-// The refusal that a fault of a plan is.
-fn plan_refusal(fault: VersionFault, home_a: u32) -> Refusal
+// The refusal that a fault of a plan is. A move comes behind a look-up of its version: pages that lack it since have no
+// number left for one. No other plan tells NoSuch.
+pub(crate) fn plan_refusal(fault: VersionFault, home_a: u32) -> Refusal
     ensures { result ≡ plan_refusal home_a fault }
 {
     match fault {
         VersionFault::Table(fault) => table_refusal(fault, home_a),
-        VersionFault::NoSuch => Refusal::NoSuch,
-        VersionFault::VersionsUsedUp => Refusal::VersionsUsedUp,
+        VersionFault::NoSuch | VersionFault::VersionsUsedUp => Refusal::VersionsUsedUp,
     }
 }
 
@@ -87,7 +89,38 @@ fn untaken(map: &Map, shadow: &Shadow, gone: &[Leaving], home_a: u32) -> Option<
     None
 }
 
-// Plans the next version of a name, tests what goes, and enters the version, of the bytes and in the runs of a draft.
+// Tests the versions whose sectors are freed, and enters the planned version, with the serial, the bytes and the runs of
+// an entry.
+pub(crate) fn enter_planned<T: Pages>(
+    t: &mut T,
+    home_a: u32,
+    map: &Map,
+    shadow: &Shadow,
+    plan: &Plan,
+    freed: &[Leaving],
+    like: &Entry,
+) -> Result<(), Refusal>
+    requires more { MOST_REACHED ≤ (T.step t.old).most_reached }
+    requires changes { MOST_CHANGED ≤ changes (T.step t.old) }
+    requires entry { IsTrue (is_entry (planned_entry plan.now like.now.serial like.now.length like.now.runs)) }
+    requires fits { FitsEntry (planned_entry plan.now like.now.serial like.now.length like.now.runs) }
+    requires ready { OfTable T.Pages t.old t.old (IsPlanReady plan.now) }
+    ensures calls { OnlyEdits T.Pages (outer_in result) t.old t.new }
+    ensures pages { ChangesPages (T.step t.old) (T.step t.new) }
+    ensures changes { changes (T.step t.old) ≤ changes (T.step t.new) + 36 }
+    ensures entered { OnOk result (EntersPlanned T.Pages map.now shadow.now freed.now (with_planned plan.now (planned_entry plan.now like.now.serial like.now.length like.now.runs)) t.old t.new) }
+    ensures refused { IfErr result (RefusesPlanned T.Pages map.now shadow.now home_a freed.now t.old t.new) }
+{
+    if let Some(refusal) = untaken(map, shadow, freed, home_a) {
+        return Err(refusal);
+    }
+    match enter(t, plan, like.serial, like.length, like.runs.copied()) {
+        Ok(()) => Ok(()),
+        Err(fault) => Err(enter_refusal(fault)),
+    }
+}
+
+// Plans the next version of a name, and enters it with the bytes and the runs of a draft.
 fn enter_at<T: Pages>(
     t: &mut T,
     home_a: u32,
@@ -108,7 +141,7 @@ fn enter_at<T: Pages>(
     ensures pages { ChangesPages (T.step t.old) (T.step t.new) }
     ensures changes { changes (T.step t.old) ≤ changes (T.step t.new) + 36 }
     ensures entered { IfOk result (EntersAt T.Pages map.now shadow.now name.now given draft.now t.old t.new) }
-    ensures refused { IfErr result (RefusesAt T.Pages map.now shadow.now name.now home_a t.old t.new) }
+    ensures refused { IfErr result (RefusesAt T.Pages map.now shadow.now name.now (HasNoNumber name.now) home_a t.old t.new) }
 {
     // For the proof alone: its own call tells what a name keeps.
     let _name = name.as_bytes();
@@ -116,12 +149,9 @@ fn enter_at<T: Pages>(
         Ok(plan) => plan,
         Err(fault) => return Err(plan_refusal(fault, home_a)),
     };
-    if let Some(refusal) = untaken(map, shadow, plan.gone.as_slice(), home_a) {
-        return Err(refusal);
-    }
-    match enter(t, &plan, draft.serial, draft.length, draft.runs.copied()) {
+    match enter_planned(t, home_a, map, shadow, &plan, plan.gone.as_slice(), draft) {
         Ok(()) => Ok(plan),
-        Err(fault) => Err(enter_refusal(fault)),
+        Err(refusal) => Err(refusal),
     }
 }
 

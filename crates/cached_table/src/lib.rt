@@ -5,6 +5,7 @@ mod changing;
 mod entering;
 mod homes;
 mod looking;
+mod moving;
 mod opening;
 mod surveying;
 mod table;

@@ -1,17 +1,22 @@
 -- What goes by a move: of those that a version more lets go, the first but the one that moves.
 use Rattle.std.proofs.Common.{◌≡◌, inl, inr, ℕ, zero, suc, ◌+◌, ◌-◌, ◌<◌, ◌≤◌, min, Bool, true, false, cond, not, ◌||◌, List, [], ◌∷◌, ◌++◌, length, take, map, filter, Option, Some, None, refl, sym, ap, subst, ◌∙◌, arith, length-append}
-use Rattle.std.specs.Prelude.{IfSome, option_map, unwrap_or, ◌==◌}
+use Rattle.std.specs.Prelude.{T, IfSome, option_map, unwrap_or, ◌==◌}
 use Rattle.std.specs.List.{AllByRecursion, last_or}
 use Rattle.std.proofs.lemmas.Bool.{cases_lt, eqb-false, false_from_ne_true, ne_eqb}
 use Rattle.std.proofs.lemmas.List.{length-map, length-take, take-map, take-take}
 use Rattle.fsd_bytes.specs.Bytes.{same_bytes}
 use Rattle.fsd_bytes.specs.declared.key.Key.{Key}
-use Rattle.fsd_bytes.specs.Keys.{same_key}
+use Rattle.fsd_bytes.specs.Keys.{key_cmp, same_key}
 use Rattle.fsd_formats.specs.declared.entry.Entry.{Entry}
 use Rattle.fsd_table.specs.Pages.{entry_keys}
 use Rattle.fsd_table.proofs.BoundLaws.{Ascend, ascend_tail}
 use Rattle.fsd_files.specs.Answers.{entry_of, highest_entry}
-use Rattle.fsd_files.specs.Files.{keep_of, moved_out, next_version}
+use Rattle.fsd_files.specs.Files.{File, Files, gone_by_move, highest, keep_of, moved_keep, moved_out, new_key, next_version}
+use Rattle.fsd_files.specs.Kept.{Lists}
+use Rattle.fsd_files.proofs.ListingLaws.{BothOrNone, highest_both}
+use Rattle.fsd_files.proofs.MoveLaws.{keys_by_move}
+use Rattle.std.specs.FinMap.{is_sorted}
+use Rattle.fsd_formats.specs.NamePage.{are_ascending}
 use Rattle.fsd_files.specs.Volume.{entries_at, entries_without}
 use Rattle.name_page.specs.Lookups.{same_name}
 use Rattle.name_page.proofs.PutLaws.{ascend_head, gt_unequal, one_key}
@@ -23,7 +28,7 @@ use Rattle.version_table.specs.Plan.{IsPlan, IsPlanReady, keys_left}
 use Rattle.version_table.specs.Versions.{next_keep, next_key, oldest_beyond, versions_of}
 use Rattle.version_table.proofs.EditLaws.{AllAbove, kept_ascend}
 use Rattle.version_table.proofs.MakeLaws.{beyond_at, keys_of}
-use Rattle.version_table.proofs.PlanLaws.{each_kept, each_taken}
+use Rattle.version_table.proofs.PlanLaws.{each_kept, each_taken, keys_agree, next_is_new}
 use Rattle.version_table.proofs.VersionLaws.{keys_beyond, same_both}
 
 -- ---- one key among entries that ascend
@@ -313,3 +318,30 @@ module _ (name : List ℕ) (table : List Entry) (asc : Ascend table) (numbered :
 pub keep_bound : (b : Bool) (own given : ℕ) → own ≤ 999 → given ≤ 999 → cond b own given ≤ 999
 keep_bound true own given small other = small
 keep_bound false own given other small = small
+
+-- ---- the files whose entries they are
+
+own_alike : (own : ℕ) (o : Option (Key × File)) (p : Option Entry) → BothOrNone o p → unwrap_or (option_map (λ y. y.1.keep) o) own ≡ unwrap_or (option_map (λ e. e.keep) p) own
+own_alike own None None both = refl
+own_alike own None (Some e) both = absurd both
+own_alike own (Some y) None both = absurd both
+own_alike own (Some y) (Some e) both = sym both.keep
+
+pub keeps_move : (name : List ℕ) (own : ℕ) (s : Files) (table : List Entry) → Lists s table → moved_keep name own s ≡ keep_moved name own table
+keeps_move name own s table lists = own_alike own (highest name s) (highest_entry name table) (highest_both name s table lists)
+
+pub gone_move : (key : Key) (name : List ℕ) (x : File) (e : Entry) (s : Files) (table : List Entry) → Lists s table → T (is_sorted key_cmp s) → are_ascending (entry_keys table) ≡ true → entry_of key table ≡ Some e → x.keep ≡ e.keep
+    → gone_by_move key name x s ≡ leaving_by_move key name e.keep table
+gone_move key name x e s table lists sorted asc there keep =
+    keys_by_move key name x s sorted (ap (λ (k : Key). same_key k key) agree ∙ other) table lists
+    ∙ (λ i. moved_out (keeps i) (map (λ z. z.key) (versions_of name (entries_without (key ∷ []) table)) ++ agree i ∷ []))
+  where
+    agree : new_key name s ≡ next_key name table
+    agree = keys_agree name s table lists
+
+    keeps : moved_keep name x.keep s ≡ keep_moved name e.keep table
+    keeps = ap (λ (own : ℕ). moved_keep name own s) keep ∙ keeps_move name e.keep s table lists
+
+    other : same_key (next_key name table) key ≡ false
+    other = false_from_ne_true (same_key (next_key name table) key) (λ same.
+        let no : None ≡ Some e = sym (next_is_new name table asc) ∙ ap (λ (k : Key). entry_of k table) (one_key (next_key name table) key same) ∙ there in cc)

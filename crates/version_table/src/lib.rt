@@ -14,7 +14,9 @@ mod version;
 pub use editing::{enter, set_keep, take_out};
 pub use fault::VersionFault;
 pub use finding::{newest, version_at};
-pub use laws::{next_versions_are_those_of_puts, tables_are_files_entries};
+pub use laws::{
+    moves_are_those_of_files, next_versions_are_those_of_puts, tables_are_files_entries,
+};
 pub use loading::plan_load;
 pub use moving::plan_move;
 pub use oldest::Leaving;

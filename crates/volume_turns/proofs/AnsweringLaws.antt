@@ -203,8 +203,7 @@ module _ (s : State) (up : s.down ≡ None) (why : Refusal) where
 
   moves : (key : Key) (name : List ℕ) (i : Image) → Each why (IfOk (ended_by why) (λ a. MayReply (Word.Move key name) i a)) (move_rest s)
   moves key name i =
-      let P : Reply → Type 0 = λ a. MayReply (Word.Move key name) i a in
-      (
+      let P : Reply → Type 0 = λ a. MayReply (Word.Move key name) i a in (
         λ x. losses P why x.1,
         (
           λ x. looks P why x,

@@ -10,7 +10,6 @@ use Rattle.fsd_bytes.specs.declared.pattern.Pattern.{Pattern}
 use Rattle.fsd_bytes.specs.declared.refusal.Refusal.{Refusal}
 use Rattle.fsd_bytes.specs.declared.refusal.Refusal.TheVariants as Why
 use Rattle.fsd_formats.specs.declared.entry.Entry.{Entry}
-use Rattle.fsd_table.specs.Table.{Visit}
 use Rattle.fsd_files.specs.declared.reply.Reply.{Reply}
 use Rattle.fsd_files.specs.declared.reply.Reply.TheVariants as Said
 use Rattle.fsd_texts.specs.declared.fault.Fault.{Fault}
@@ -69,7 +68,7 @@ nothing_told s old new why r is = subst (λ (x : Result Reply Fault). HasScrubbe
 pub no_reason : (P : Reply → Type 0) (why : Refusal) (r : Result Reply Fault) → r ≡ ended_by why → P (Said.Refused why) → IfOk r P
 no_reason P why r is said = subst (λ (x : Result Reply Fault). IfOk x P) (sym is) (said_or_fault P why said)
 
-pub ages_here : (a : Moment) → Ages a a
+ages_here : (a : Moment) → Ages a a
 ages_here a = record { image = worn_refl (open_damage a.windows) a.image; windows = refl }
 
 pub ages_then : (a b c : Moment) → Ages a b → Ages b c → Ages a c

@@ -17,7 +17,7 @@ use Rattle.volume_turns.proofs.CallKeepLaws.{holds_continues, holds_goes, seat_s
 use Rattle.volume_turns.proofs.CallLaws.{answers_does, met_none, reads_stay}
 use Rattle.volume_turns.proofs.CallOrderLaws.{declined_answers, declined_device, look_up_more, open_declines, open_unworn, test_client}
 use Rattle.volume_turns.proofs.NumberLaws.{goes_none}
-use Rattle.volume_turns.proofs.ReasonLaws.{ages_here, no_reason}
+use Rattle.volume_turns.proofs.ReasonLaws.{no_reason, showed_here}
 use Rattle.volume_turns.proofs.ToldLaws.{told_of}
 use Rattle.volume_turns.proofs.calls.open.Goals as goal
 
@@ -52,7 +52,7 @@ returns-in-Ok-clause-because g c h =
     let V = g.V.Files in
     let M = g.M.Machine in
     let found = c.in-Ok.ensures.causes.found in
-    (found.0, found.1, found.2, record { by = c.args.v.now; same = refl; from = M.now c.args.m.now; aged = ages_here (M.now c.args.m.now); shows = found.3 h })
+    (found.0, found.1, found.2, showed_here V.state V.resident c.args.v.now (V.state c.open_key.new.v) (M.now c.args.m.now) (M.now c.open_key.new.m) _ (found.3 h))
 
 pub returns-in-Ok-clause-done : goal.returns-in-Ok-clause-done
 returns-in-Ok-clause-done g c h k sits =
@@ -101,7 +101,7 @@ returns-in-Err-clause-because g c h =
     let s = V.state c.args.v.now in
     let a = M.now c.args.m.now in
     no_reason (λ x. BecauseOpened V.state V.resident c.args.key.now s (V.state c.open_key.new.v) a (M.now c.open_key.new.m) x) c.in-Err.why c.ended_by.result c.ended_by.ensures.is
-    (λ is. record { by = c.args.v.now; same = refl; from = a; aged = ages_here a; shows = c.in-Err.ensures.causes.absent (ap err is) h })
+    (λ is. showed_here V.state V.resident c.args.v.now (V.state c.open_key.new.v) a (M.now c.open_key.new.m) _ (c.in-Err.ensures.causes.absent (ap err is) h))
   where
     err : Refusal → Result ℕ Refusal
     err why = Err why

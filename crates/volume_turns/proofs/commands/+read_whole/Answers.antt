@@ -1,7 +1,6 @@
-use Rattle.std.proofs.Common.{◌≡◌, ◌<◌, ◌≤◌, ◌+◌, inl, inr, ℕ, List, ◌++◌, ◌∙◌, refl, sym, ap, subst, Option, length, take, drop, arith}
+use Rattle.std.proofs.Common.{◌≡◌, ◌<◌, ◌≤◌, ◌+◌, inl, inr, ℕ, List, ◌∙◌, refl, sym, ap, subst, Option, length, take, drop, arith}
 use Rattle.std.specs.Prelude.{◌⊎◌, Err, IfOk, Result}
 use Rattle.std.proofs.lemmas.List.{take_at}
-use Rattle.fsd_bytes.specs.declared.key.Key.{Key}
 use Rattle.fsd_files.specs.Answers.{entry_of}
 use Rattle.fsd_files.specs.declared.reply.Reply.{Reply}
 use Rattle.fsd_files.specs.declared.reply.Reply.TheVariants as Said
@@ -29,7 +28,7 @@ use Rattle.volume_turns.proofs.ToldLaws.{read_told_so, told_of}
 use Rattle.volume_turns.proofs.WornLaws.{read_told_worn}
 use Rattle.volume_turns.proofs.NumberLaws.{goes_none}
 use Rattle.volume_turns.specs.Reasons.{BecauseRead}
-use Rattle.volume_turns.proofs.ReasonLaws.{ages_here, none_written, read_because, reads_written}
+use Rattle.volume_turns.proofs.ReasonLaws.{none_written, read_because, reads_written, showed_here}
 use Rattle.fsd_formats.specs.NamePage.{max_length}
 use Rattle.volume_turns.proofs.commands.+read_whole.Goals as goal
 
@@ -90,7 +89,7 @@ returns-in-Ok-read-clause-tells g t c =
       because = λ h.
           let found = e.tells.found h in
           subst (λ (b : List ℕ). BecauseRead V.state V.resident key s u a (now c.read.new.m) (Said.Bytes key (take count b))) (sym items)
-          (record { by = c.args.v.now; same = refl; from = a; aged = ages_here a; shows = record { read = found.read; are_read = found.are_read; is = λ pages have. version_shown u a.image key c.as_mut_slice.result.now c.read.new.buf count (omega (arith, left)) (enough c.if-are_all.ensures size) pages (found.is pages have) } });
+          (showed_here V.state V.resident c.args.v.now u a (now c.read.new.m) _ (record { read = found.read; are_read = found.are_read; is = λ pages have. version_shown u a.image key c.as_mut_slice.result.now c.read.new.buf count (omega (arith, left)) (enough c.if-are_all.ensures size) pages (found.is pages have) }));
     })
 
 pub returns-in-Err-clause-tells : goal.returns-in-Err-clause-tells
@@ -123,7 +122,7 @@ returns-in-Err-clause-tells g t c =
             told = read_told_so AreOfPage s.layout b.image key why r is (told_of s u (V.resident c.args.v.now) a b (ap (λ (x : State). x.layout) e.state) why (e.tells.causes h));
           };
       written = λ tells. reads_written (M.ledger c.args.m.now) (M.ledger c.read.new.m) (e.disk.ledger tells) r;
-      because = λ h. read_because V.state V.resident key s u a b why r is (λ none same. record { by = c.args.v.now; same = refl; from = a; aged = ages_here a; shows = e.tells.absent (ap (λ (w : Refusal). Err w) none) h });
+      because = λ h. read_because V.state V.resident key s u a b why r is (λ none same. showed_here V.state V.resident c.args.v.now u a b _ (e.tells.absent (ap (λ (w : Refusal). Err w) none) h));
     }
 
 -- ---- with room for the longest

@@ -1,25 +1,21 @@
-use Rattle.std.proofs.Common.{◌≡◌, ◌∙◌, None, refl, ap, subst}
-use Rattle.std.specs.Prelude.{Err, IfErr, IsTrue}
+use Rattle.std.proofs.Common.{◌≡◌, ◌∙◌, None, refl, ap}
+use Rattle.std.specs.Prelude.{Err}
 use Rattle.fsd_bytes.specs.declared.refusal.Refusal.{Refusal}
 use Rattle.fsd_files.specs.Answers.{entry_of}
 use Rattle.fsd_files.specs.Disk.{nowhere}
 use Rattle.fsd_texts.specs.declared.command.Command.TheVariants as Word
 use Rattle.sector_disk.specs.Image.{open_damage}
-use Rattle.sector_disk.specs.Machine.{Ledger}
 use Rattle.sector_disk.proofs.CallLaws.{reads_then}
-use Rattle.scrub.specs.Telling.{AreOfPage}
 use Rattle.scrub.proofs.LeadLaws.{worn_touches}
 use Rattle.volume_contract.specs.Order.{entry_steps}
-use Rattle.volume_contract.specs.State.{State, downs_for, is_worn, volume_of}
-use Rattle.volume_turns.specs.Reasons.{HasWritten}
-use Rattle.volume_turns.specs.Steps.{IsToldOn}
-use Rattle.volume_turns.proofs.AnsweringLaws.{entry_refused, worn_first}
+use Rattle.volume_contract.specs.State.{State, downs_for, volume_of}
+use Rattle.volume_turns.proofs.AnsweringLaws.{entry_refused}
 use Rattle.volume_turns.proofs.DidLaws.{goes_same, opens, reads_none, reads_stay, refused_did, up_so}
 use Rattle.volume_turns.proofs.NumberLaws.{goes_none}
 use Rattle.volume_turns.proofs.OrderLaws.{entry_down, entry_worn}
 use Rattle.volume_turns.proofs.ReadLaws.{does_earlier, found_length, unfound_does}
 use Rattle.volume_turns.proofs.GetLaws.{tells_then}
-use Rattle.volume_turns.proofs.ReasonLaws.{read_since, showed_here}
+use Rattle.volume_turns.proofs.ReasonLaws.{showed_here}
 use Rattle.volume_turns.proofs.commands.get.Goals as goal
 
 pub returns-in-Ok : goal.returns-in-Ok

@@ -1,0 +1,53 @@
+use Rattle.std.proofs.Common.{◌≤◌, ℕ, List, ap, refl, rules, subst}
+use Rattle.std.proofs.lemmas.Result.{on_err_weaker}
+use Rattle.fsd_bytes.specs.Keys.{max_u32}
+use Rattle.fsd_formats.specs.declared.entry.Entry.{Entry}
+use Rattle.name_page.specs.Pages.{spare_count, outer_in}
+use Rattle.version_table.specs.Moving.{IsMovePlan}
+use Rattle.version_table.specs.Versions.{next_key}
+use Rattle.cached_table.specs.Entering.{LosesUntaken}
+use Rattle.cached_table.specs.Moving.{LacksNumber}
+use Rattle.cached_table.proofs.LeftLaws.{left_as}
+use Rattle.cached_table.proofs.EditLaws.{changes_left, edits_left, made, of_so, refuses_left, stays_left}
+use Rattle.cached_table.proofs.EnteringLaws.{refused_each, refused_walks}
+use Rattle.cached_table.proofs.LookLaws.{looks_left}
+use Rattle.cached_table.proofs.MetLaws.{shown_steps, unsound_left}
+use Rattle.cached_table.proofs.MovingLaws.{moved_each, moves_in, moves_none}
+use Rattle.cached_table.proofs.StayLaws.{walks_stay}
+use Rattle.cached_table.proofs.WaitingLaws.{none_failed, waits_left}
+use Rattle.cached_table.proofs.table.CachedTable.move_to.Goals as goal
+
+pub returns-clause-edits : goal.returns-clause-edits
+returns-clause-edits g c = edits_left c.new-table.ensures.over c.new-table.ensures.step c.move_at-done.ensures.calls.count c.move_at-done.ensures.calls.outside (left_as c.rest.ensures.left (search rules) (search rules) (search rules))
+
+pub returns-clause-waiting : goal.returns-clause-waiting
+returns-clause-waiting g c = waits_left c.new-table.ensures.over c.move_at-done.ensures.calls.count (left_as c.rest.ensures.left refl (search rules) refl) c.move_at-done.ensures.pages
+
+pub returns-clause-changes : goal.returns-clause-changes
+returns-clause-changes g c = changes_left c.new-table.ensures.over c.new-table.ensures.step c.move_at-done.ensures.calls.count c.move_at-done.ensures.calls.outside (left_as c.rest.ensures.left refl (search rules) refl) 36 c.move_at-done.ensures.changes
+
+pub returns-clause-moved : goal.returns-clause-moved
+returns-clause-moved g c =
+    let r = c.move_at-done.result in
+    let e = c.move_at-done.ensures.moved in
+    moves_in _ _ _ _ _ _ _ _ _ _ _ _ _ _ c.new-table.result c.move_at-done.new.t r e
+    (of_so c.new-table.ensures.over c.new-table.ensures.step c.move_at-done.ensures.calls.count c.move_at-done.ensures.calls.outside (left_as c.rest.ensures.left (search rules) refl refl) (λ plan table. IsMovePlan c.args.key.now c.args.name.now table plan) r (moved_each r (λ plan x. x.planned) e))
+    (moved_each r (λ plan x. subst (λ (n : ℕ). 8 ≤ n) (ap spare_count c.new-table.ensures.step) x.made.room) e)
+    (λ edit makes. made c.new-table.ensures.over c.new-table.ensures.step c.move_at-done.ensures.calls.count c.move_at-done.ensures.calls.outside (left_as c.rest.ensures.left (search rules) (search rules) (search rules)) edit makes)
+
+pub returns-clause-refused : goal.returns-clause-refused
+returns-clause-refused g c =
+    let r = c.move_at-done.result in
+    let map = c.args.map.now in
+    let w = c.args.shadow.now in
+    let key = c.args.key.now in
+    let name = c.args.name.now in
+    let e = c.move_at-done.ensures.refused in
+    let walks = refused_walks _ map w name (LacksNumber key name) c.args.home_a c.new-table.result c.move_at-done.new.t r e in
+    let outside = c.move_at-done.ensures.calls.outside in
+    let by = shown_steps _ (outer_in r) map w name c.args.home_a c.new-table.result c.move_at-done.new.t r walks (refused_each r (λ why x. x.shown) e) in
+    moves_none _ _ _ _ _ _ _ _ _ _ _ _ _ _ r
+    (stays_left c.new-table.ensures.over c.new-table.ensures.step c.move_at-done.ensures.calls.count c.move_at-done.ensures.calls.outside (left_as c.rest.ensures.left (search rules) (search rules) (search rules)) r (none_failed _ (outer_in r) c.new-table.result c.move_at-done.new.t r walks))
+    (on_err_weaker r (λ walks. looks_left c.new-table.ensures.over c.new-table.ensures.step (walks_stay _ _ _ walks) outside (left_as c.rest.ensures.left (search rules) (search rules) refl) walks.stays) walks)
+    (refuses_left c.new-table.ensures.over c.new-table.ensures.step c.move_at-done.ensures.calls.count c.move_at-done.ensures.calls.outside (left_as c.rest.ensures.left (search rules) (search rules) (search rules)) (LosesUntaken map w) (LacksNumber key name) (λ (table : List Entry). (next_key name table).version ≤ max_u32) r (refused_each r (λ why x. x.fault) e))
+    (unsound_left c.new-table.ensures.over c.new-table.ensures.step outside (left_as c.rest.ensures.left (search rules) (search rules) refl) map w r by.0 by.1)
