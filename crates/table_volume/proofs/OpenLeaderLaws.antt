@@ -1,5 +1,5 @@
 -- What is open stands where a leader is written: no draft has it, and no reader holds it but as a leader.
-use Rattle.std.proofs.Common.{◌≡◌, ◌≢◌, inl, inr, ℕ, ◌+◌, ◌<◌, Bool, true, false, ◌||◌, not, List, [], ◌∷◌, ◌++◌, take, Option, None, Some, sym, ap, subst, ◌∙◌, arith}
+use Rattle.std.proofs.Common.{◌≡◌, ◌≢◌, inl, inr, ℕ, ◌<◌, Bool, true, false, ◌||◌, not, List, [], ◌∷◌, ◌++◌, take, Option, None, Some, sym, ap, subst, arith}
 use Rattle.std.specs.Prelude.{◌==◌, Contains, IsTrue}
 use Rattle.std.specs.List.{AllByRecursion, AllZip, flat_map, list_all, list_any}
 use Rattle.std.proofs.lemmas.Bool.{and_parts, or_cases}
@@ -18,7 +18,7 @@ use Rattle.fsd_files.specs.Volume.{plans_of}
 use Rattle.fsd_files.specs.Waiting.{IsSpaced, are_same_or_apart, is_leader}
 use Rattle.fsd_files.proofs.ChangeLaws.{used-append}
 use Rattle.fsd_table.proofs.BoundLaws.{all_weaker}
-use Rattle.fsd_files.proofs.CountLaws.{contains_occurs, differ_occurs, occurs, used, used-cons}
+use Rattle.fsd_files.proofs.CountLaws.{contains_occurs, differ_occurs, used, used-cons}
 use Rattle.fsd_files.proofs.KeptLaws.{behind_there, has_on}
 use Rattle.fsd_sound.specs.Mounted.{HasOpen, Mounted, Wrote}
 use Rattle.volume_contract.specs.State.{StandWritten}

@@ -29,8 +29,9 @@ use Rattle.volume_laws.specs.Volume.{VolumeValue}
 -- ---- entries
 
 -- Pages are read into the cache, and nothing else is changed: the volume stands as it stood. A refusal is one of a look-up,
--- and has its cause; what is in memory then was there before, or stood in a copy. What is found is an entry by the grammar, in a page of the table; where its sectors are not taken, that is the
--- page's fault. The entries of a volume that stands are all taken, and what is taken is told so.
+-- and has its cause; what is in memory then was there before, or stood in a copy. What is found is an entry by the grammar,
+-- in a page of the table; where its sectors are not taken, that is the page's fault. The entries of a volume that stands
+-- are all taken, and what is taken is told so.
 pub record LooksInto {D : Type 0} (M : Ghosts D) (old new : VolumeValue) (before now : D) (result : Result (Option FoundEntry) Refusal) : Type 0 where
   pub disk : OnlyReads M (device_in device_of result) before now
   pub cache : new ≡ record old { cache = new.cache }

@@ -1,5 +1,5 @@
 -- What a look-up has found, as the pages that were read show it.
-use Rattle.std.proofs.Common.{◌≡◌, inl, inr, ℕ, Bool, true, false, cond, ◌||◌, List, length, Option, Some, None, Result, Ok, Err, refl, sym, subst}
+use Rattle.std.proofs.Common.{◌≡◌, ℕ, Bool, true, false, cond, ◌||◌, List, length, Option, Some, None, Result, Ok, Err, refl, sym, subst}
 use Rattle.std.specs.Prelude.{IfOk, IfSome}
 use Rattle.std.specs.List.{AllByRecursion}
 use Rattle.std.proofs.lemmas.Bool.{or_left, or_right}
@@ -7,9 +7,9 @@ use Rattle.volume_layout.specs.Layout.{home_a}
 use Rattle.run_table.specs.declared.run.Run.{Run}
 use Rattle.sector_disk.specs.declared.machine.Machine.{Ghosts as MachineGhosts}
 use Rattle.sector_disk.specs.Calls.{OnlyReads}
-use Rattle.sector_disk.specs.Image.{IsWorn, Windows, open_damage}
-use Rattle.sector_disk.specs.Machine.{Moment, Wears}
-use Rattle.sector_disk.proofs.Wear.{worn_more, worn_trans}
+use Rattle.sector_disk.specs.Image.{IsWorn, open_damage}
+use Rattle.sector_disk.specs.Machine.{Wears}
+use Rattle.sector_disk.proofs.Wear.{worn_more}
 use Rattle.fsd_bytes.specs.declared.key.Key.{Key}
 use Rattle.fsd_bytes.specs.declared.refusal.Refusal.{Refusal}
 use Rattle.fsd_bytes.specs.declared.refusal.Refusal.TheVariants as Why
@@ -26,7 +26,7 @@ use Rattle.name_btree.specs.declared.lookup.FoundEntry.{FoundEntry}
 use Rattle.name_btree.specs.Fault.{outer_told}
 use Rattle.fsd_table.specs.Reached.{ReachesPage, HasEntry}
 use Rattle.volume_contract.specs.Found.{ShowsReached, HasRange}
-use Rattle.volume_contract.specs.Causes.{IsRead, IsTaken, ShowsOfPages, StoodInCopy}
+use Rattle.volume_contract.specs.Causes.{IsTaken, ShowsOfPages}
 use Rattle.volume_contract.specs.Ends.{ReadsRange, count_in, found_one}
 use Rattle.volume_contract.specs.State.{State}
 use Rattle.cached_table.specs.Looking.{HavePages, LeadsTo, LooksOnly, told_from}
@@ -34,6 +34,7 @@ use Rattle.volume_laws.specs.Meeting.{met_found}
 use Rattle.volume_laws.specs.State.{resident, state}
 use Rattle.volume_laws.specs.Taken.{are_taken, met_entry}
 use Rattle.volume_laws.specs.Volume.{IsWholeVolume, VolumeValue}
+use Rattle.volume_laws.proofs.BehindLaws.{shows_after}
 use Rattle.volume_laws.proofs.RangeLaws.{met_good, reads_found, whole_before}
 use Rattle.volume_laws.proofs.NewVersionLaws.{zip_wider}
 use Rattle.volume_laws.proofs.ReadLaws.{shows_now}
@@ -83,26 +84,6 @@ module _ (P : Entry → Type 0) (v : VolumeValue) where
       by true = there
       by false = tt
 
--- ---- as the call goes on
-
-module _ (old new : State) (resident : ℕ → Option (List ℕ)) (before mid now : Moment) (wears : Wears mid now) where
-  stood_later : (page : ℕ) (bytes : List ℕ) → StoodInCopy old new before mid page bytes → StoodInCopy old new before now page bytes
-  stood_later page bytes (seen, inl first) = (seen, inl first)
-  stood_later page bytes (seen, inr (worn, stands)) =
-      (seen, inr (subst (λ (w : Windows). IsWorn (open_damage w) seen now.image) (sym wears.windows) (worn_trans (open_damage mid.windows) seen mid.image now.image worn wears.image), stands))
-
-  -- what was read shows the same later
-  shows_later : (Is Then : List (List ℕ) → Type 0) → ((pages : List (List ℕ)) → Is pages → Then pages) → ShowsOfPages old new resident before mid Is → ShowsOfPages old new resident before now Then
-  shows_later Is Then more shows = record {
-    read = shows.read;
-    are_read = λ page. by page (shows.read page) (shows.are_read page);
-    is = λ pages have. more pages (shows.is pages have);
-  }
-    where
-      by : (page : ℕ) (o : Option (List ℕ)) → IfSome o (IsRead old new resident before mid page) → IfSome o (IsRead old new resident before now page)
-      by page None read = tt
-      by page (Some bytes) read = record { within = read.within; source = elim read.source [ inl there ↦ inl there | inr stood ↦ inr (stood_later page bytes stood) ] }
-
 -- ---- the range of a version
 
 -- what sectors keep is kept as they are worn
@@ -135,4 +116,4 @@ module _ {D : Type 0} (M : MachineGhosts D) (resident : ℕ → Option (List ℕ
         whole = whole_before may i seen j worn (range_sectors e.runs from n) (whole honest);
         gives = λ file hurt len kept. reads_found may i seen j worn (λ s. hurt s || may s) (Some file) (Some e) e from buf left (Ok n) refl (len, kept_later may hurt i seen worn file.bytes e.runs kept) (λ f l k. gives honest f (λ s. hurt s || may s) l k);
       } in
-      shows_later old new resident (M.now m) (M.now mid) (M.now m') (reads.worn honest) _ _ (λ pages led. (led.0, led.1, range led.0 led.2)) (there back)
+      shows_after old new new (M.now m) (M.now mid) (M.now m') refl refl (reads.worn honest) resident _ _ (λ pages led. (led.0, led.1, range led.0 led.2)) (there back)

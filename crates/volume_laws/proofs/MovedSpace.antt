@@ -12,8 +12,8 @@ use Rattle.fsd_files.specs.Answers.{entry_of, entry_put, gone_sectors, highest_e
 use Rattle.fsd_files.specs.Disk.{Image, Sectors}
 use Rattle.fsd_files.specs.Files.{Change, File, gone_by_move, highest, moved_keep, moved_out, new_key}
 use Rattle.fsd_files.specs.Kept.{Describes, IsEntryOf, Lists}
-use Rattle.fsd_files.specs.Volume.{Volume, entries_at, entries_without, in_version, is_free, plans_of}
-use Rattle.fsd_files.specs.Waiting.{Changes, IsSpaced, is_kept_alone}
+use Rattle.fsd_files.specs.Volume.{Volume, entries_at, entries_without, in_version, is_free}
+use Rattle.fsd_files.specs.Waiting.{IsSpaced, is_kept_alone}
 use Rattle.fsd_files.proofs.ChangeKept.{move_kept}
 use Rattle.fsd_files.proofs.ChangeLaws.{move_changes}
 use Rattle.fsd_files.proofs.ListingLaws.{AreFound, BothOrNone, found_both, highest_both, lists_length, version_moved_listed}

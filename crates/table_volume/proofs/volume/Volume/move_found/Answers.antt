@@ -1,11 +1,10 @@
-use Rattle.std.proofs.Common.{◌≡◌, ℕ, ◌-◌, ◌≤◌, List, ◌∷◌, drop, length, not, None, rules, sym, ap, subst, ◌∙◌}
+use Rattle.std.proofs.Common.{ℕ, ◌-◌, List, drop, length, not, None, rules, ap, ◌∙◌}
 use Rattle.std.specs.Prelude.{◌==◌}
 use Rattle.std.proofs.lemmas.Result.{err_from_is_err_and}
 use Rattle.sector_disk.proofs.CallLaws.{reads_told, told_up}
 use Rattle.version_table.specs.declared.oldest.Leaving.{Leaving}
 use Rattle.volume_contract.specs.Ends.{device_of}
 use Rattle.volume_laws.specs.State.{resident, state}
-use Rattle.volume_laws.specs.Volume.{VolumeValue}
 use Rattle.volume_laws.proofs.CauseLaws.{handed_cause}
 use Rattle.volume_laws.proofs.EditedLaws.{stayed}
 use Rattle.volume_laws.proofs.EnteredCalls.{idle_gone, none_waits, place_told, through_entered, waiting_were}

@@ -1,4 +1,4 @@
-use Rattle.std.proofs.Common.{inl, inr, ap, sym, subst, length, ◌∙◌, arith, List, ℕ, Some, Ok, Err, refl}
+use Rattle.std.proofs.Common.{inl, ap, sym, subst, length, ◌∙◌, arith, List, ℕ, Err, refl}
 use Rattle.std.proofs.lemmas.Result.{err_from_is_err_and}
 use Rattle.std.specs.Prelude.{IfNone, Option}
 use Rattle.sector_disk.proofs.CallLaws.{reads_then, reads_told}
