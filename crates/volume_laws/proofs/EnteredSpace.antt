@@ -68,6 +68,10 @@ module _ (out : List Key) (e : Entry) (stays : list_any (same_key e.key) out ≡
 
 -- ---- what goes waits
 
+pub as_many_left : (gs : List Leaving) → length (entries_left gs) ≡ length gs
+as_many_left [] = refl
+as_many_left (g ∷ gs) = omega (arith, as_many_left gs)
+
 pub gone_at : (a : Area) (gs : List Leaving) (s : ℕ) → a.from ≤ s → s < a.to → contains (with_gone a gs).sectors s ≡ (contains a.sectors s || is_in (plans_of (entries_left gs)) s)
 gone_at a [] s low high = sym (or-false (contains a.sectors s))
 gone_at a (g ∷ gs) s low high =
@@ -197,10 +201,6 @@ module _ (v : Volume) (name bytes : List ℕ) (given : Option ℕ) (runs : List 
       where
         one_more : weight (λ runs. 1) made.entries ≡ 1 + weight (λ runs. 1) (entries_without out v.entries)
         one_more = weight_put left new (ap not stays) (λ runs. 1) v.entries absent
-
-        as_many_left : (gs : List Leaving) → length (entries_left gs) ≡ length gs
-        as_many_left [] = refl
-        as_many_left (g ∷ gs) = omega (arith, as_many_left gs)
 
   -- the sectors that wait then
   pub made_waits : (l : Layout) (old : Area) (gs : List Leaving) → Changes v made → v.layout ≡ l → IsOfData l old → entries_left gs ≡ entries_at out v.entries

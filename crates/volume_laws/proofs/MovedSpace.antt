@@ -1,6 +1,6 @@
 -- A volume whose version has moved, by itself: which entries go, what is free, and what waits.
 use Rattle.std.proofs.Common.{◌≡◌, ℕ, ◌+◌, Bool, ◌||◌, List, [], ◌∷◌, ◌++◌, filter, length, map, Option, Some, None, refl, sym, ap, subst, ◌∙◌, arith}
-use Rattle.std.specs.Prelude.{T, option_map, unwrap_or}
+use Rattle.std.specs.Prelude.{T}
 use Rattle.std.specs.FinMap.{find, is_sorted}
 use Rattle.std.specs.List.{list_any}
 use Rattle.run_table.specs.Space.{contains}
@@ -8,34 +8,28 @@ use Rattle.fsd_bytes.specs.Bytes.{same_bytes}
 use Rattle.fsd_bytes.specs.Keys.{key_cmp, same_key}
 use Rattle.fsd_bytes.specs.declared.key.Key.{Key}
 use Rattle.fsd_formats.specs.declared.entry.Entry.{Entry}
-use Rattle.fsd_files.specs.Answers.{entry_of, entry_put, gone_sectors, highest_entry, moved_entry, with_version_moved}
+use Rattle.fsd_files.specs.Answers.{entry_of, entry_put, gone_sectors, moved_entry, with_version_moved}
 use Rattle.fsd_files.specs.Disk.{Image, Sectors}
-use Rattle.fsd_files.specs.Files.{Change, File, gone_by_move, highest, moved_keep, moved_out, new_key}
+use Rattle.fsd_files.specs.Files.{Change, File, gone_by_move, moved_keep, moved_out, new_key}
 use Rattle.fsd_files.specs.Kept.{Describes, IsEntryOf, Lists}
 use Rattle.fsd_files.specs.Volume.{Volume, entries_at, entries_without, in_version, is_free}
 use Rattle.fsd_files.specs.Waiting.{IsSpaced, is_kept_alone}
 use Rattle.fsd_files.proofs.ChangeKept.{move_kept}
 use Rattle.fsd_files.proofs.ChangeLaws.{move_changes}
-use Rattle.fsd_files.proofs.ListingLaws.{AreFound, BothOrNone, found_both, highest_both, lists_length, version_moved_listed}
+use Rattle.fsd_files.proofs.ListingLaws.{AreFound, found_both, lists_length, version_moved_listed}
 use Rattle.fsd_files.proofs.MoveLaws.{keys_by_move, moved_count, moved_in, new_differs}
 use Rattle.version_table.specs.declared.oldest.Leaving.{Leaving}
 use Rattle.version_table.specs.declared.planning.Plan.{Plan}
 use Rattle.version_table.specs.Met.{entries_left}
 use Rattle.version_table.specs.Moving.{IsMovePlan, keep_moved, leaving_by_move}
 use Rattle.version_table.specs.Plan.{key_left, keys_left, planned_entry, with_planned}
+use Rattle.version_table.proofs.MoveLaws.{keeps_move}
 use Rattle.version_table.proofs.PlanLaws.{keys_agree}
 use Rattle.volume_laws.specs.Changing.{IsAfter}
 use Rattle.volume_laws.proofs.DeleteLaws.{split_count}
+use Rattle.volume_laws.proofs.EnteredSpace.{as_many_left}
 use Rattle.volume_laws.proofs.EntryLaws.{entry_key}
 use Rattle.volume_laws.proofs.GoneLaws.{alone, left_free, left_kept, split_in}
-
--- ---- the keep
-
-own_alike : (own : ℕ) (o : Option (Key × File)) (p : Option Entry) → BothOrNone o p → unwrap_or (option_map (λ y. y.1.keep) o) own ≡ unwrap_or (option_map (λ e. e.keep) p) own
-own_alike own None None both = refl
-own_alike own None (Some z) both = absurd both
-own_alike own (Some y) None both = absurd both
-own_alike own (Some y) (Some z) both = sym both.keep
 
 -- ---- its file
 
@@ -51,10 +45,6 @@ file_there v key e lists found = by (find key_cmp key v.files) refl (subst (λ (
     by : (o : Option File) → find key_cmp key v.files ≡ o → AreFound key o (Some e) → HasFile v key e
     by None is both = absurd both
     by (Some x) is both = record { file = x; there = is; of_entry = both }
-
-as_many_left : (gs : List Leaving) → length (entries_left gs) ≡ length gs
-as_many_left [] = refl
-as_many_left (g ∷ gs) = omega (arith, as_many_left gs)
 
 -- ---- the volume
 
@@ -108,7 +98,7 @@ module _ (v : Volume) (key : Key) (name : List ℕ) (e : Entry) (r : ℕ) (sorte
     others_are = cc goes_so
 
     keeps : moved_keep name has.file.keep v.files ≡ keep_moved name e.keep v.entries
-    keeps = ap (λ (own : ℕ). moved_keep name own v.files) (sym has.of_entry.keep) ∙ own_alike e.keep (highest name v.files) (highest_entry name v.entries) (highest_both name v.files v.entries lists)
+    keeps = ap (λ (own : ℕ). moved_keep name own v.files) (sym has.of_entry.keep) ∙ keeps_move name e.keep v.files v.entries lists
 
     out_is : out ≡ leaving_by_move key name e.keep v.entries
     out_is =
@@ -130,7 +120,7 @@ module _ (v : Volume) (key : Key) (name : List ℕ) (e : Entry) (r : ℕ) (sorte
     new_is : planned_entry plan moved.entry.serial moved.entry.length moved.entry.runs ≡ moved_entry v name e
     new_is = λ i. record {
       key = key_is i;
-      keep = (planned.keep_is ∙ ap (λ (z : Entry). keep_moved name z.keep v.entries) planned_is ∙ sym (own_alike e.keep (highest name v.files) (highest_entry name v.entries) (highest_both name v.files v.entries lists))) i;
+      keep = (planned.keep_is ∙ ap (λ (z : Entry). keep_moved name z.keep v.entries) planned_is ∙ sym (keeps_move name e.keep v.files v.entries lists)) i;
       serial = (moved_is i).serial;
       length = (moved_is i).length;
       runs = (moved_is i).runs;
