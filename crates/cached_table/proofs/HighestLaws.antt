@@ -21,7 +21,8 @@ use Rattle.version_table.specs.declared.fault.VersionFault.{VersionFault}
 use Rattle.version_table.specs.declared.fault.VersionFault.TheVariants.{Table, NoSuch, VersionsUsedUp}
 use Rattle.version_table.specs.Fault.{FailsLook}
 use Rattle.version_table.specs.Table.{MakesTable, OfTable}
-use Rattle.version_table.proofs.PlanLaws.{each_found, each_kept}
+use Rattle.fsd_files.proofs.EachLaws.{each_kept}
+use Rattle.version_table.proofs.PlanLaws.{each_found}
 use Rattle.version_table.proofs.StepLaws.{tree_ascends}
 use Rattle.cached_table.specs.Editing.{ChangesNone, KeepFails, SetsKeep}
 

@@ -24,7 +24,7 @@ use Rattle.table_pages.proofs.KeptLaws.{reached_there}
 use Rattle.cached_table.proofs.ResidentLaws.{in_memory}
 use Rattle.cached_table.specs.Entering.{ShowsMet}
 use Rattle.cached_table.specs.Looking.{Had, HavePages, LeadsTo}
-use Rattle.cached_table.proofs.VisitLaws.{own_content}
+use Rattle.fsd_sound.proofs.VisitLaws.{own_content}
 
 -- What a step leaves that changed nothing: which pages are spare and which changed, and the bytes of those.
 pub record StaysStep (old new : Step) : Type 0 where

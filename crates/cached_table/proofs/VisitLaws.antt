@@ -15,7 +15,7 @@ use Rattle.fsd_table.proofs.BoundLaws.{all_append}
 use Rattle.fsd_table.proofs.BreakLaws.{misfit_breaks}
 use Rattle.fsd_table.proofs.PageLaws.{at_is_page}
 use Rattle.fsd_sound.proofs.VisitLaws.{one_of}
-pub use Rattle.fsd_sound.proofs.VisitLaws.{own_content}
+use Rattle.fsd_sound.proofs.VisitLaws.{own_content}
 use Rattle.name_btree.specs.Fault.{IsOnWay}
 
 -- a page that is reached, and that the grammar refuses, breaks the table

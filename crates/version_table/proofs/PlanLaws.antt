@@ -27,7 +27,6 @@ use Rattle.fsd_files.specs.Files.{File, Files, highest, keep_of, new_keep, new_k
 use Rattle.fsd_files.specs.Kept.{Lists}
 use Rattle.fsd_files.proofs.FreshLaws.{new_key_is_new}
 use Rattle.fsd_files.proofs.ListingLaws.{BothOrNone, highest_both}
-pub use Rattle.fsd_files.proofs.EachLaws.{each_kept}
 use Rattle.name_page.proofs.PutLaws.{ascend_head, lt_unequal, one_key}
 use Rattle.name_btree.specs.declared.lookup.FoundEntry.{FoundEntry}
 use Rattle.name_btree.specs.Lookup.{found_entry}

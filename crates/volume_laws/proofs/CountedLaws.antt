@@ -8,7 +8,6 @@ use Rattle.sector_disk.specs.Machine.{Ledger}
 use Rattle.fsd_sound.specs.Mounted.{most_waiting}
 use Rattle.volume_contract.specs.Order.{with_drawn}
 use Rattle.volume_contract.specs.State.{Counted, IsForced, State, change_len, force_len, forces_first, forces_for_place, put_len}
-pub use Rattle.volume_contract.proofs.CountedLaws.{counted_then}
 use Rattle.volume_laws.specs.Placing.{HasStored, place_len, place_now, store_len}
 use Rattle.volume_laws.proofs.PlaceSteps.{forces_as_waits, forces_once}
 use Rattle.volume_laws.proofs.PlaceLaws.{placed_ok}

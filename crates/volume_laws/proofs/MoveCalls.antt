@@ -57,10 +57,6 @@ force_some s why comes same = by (forces_first s) (subst (Comes (by_itself s ∷
     by b (inl refused) = absurd refused.1
     by b (inr more) = absurd more.1
 
--- nor one of a look-up
-pub look_some : (why : Refusal) → IsLookUp why → why ≡ Why.NoSuch → ⊥
-look_some why look same = absurd (subst IsLookUp same look)
-
 -- where a fault that is handed on is another
 pub other_fault : {T A : Type 0} (r : Result T Refusal) (why : Refusal) → IsErrAnd r (λ told. told ≡ why) → (why ≡ Why.NoSuch → ⊥) → r ≡ Err Why.NoSuch → A
 other_fault (Ok x) why told some is = absurd (cc is)

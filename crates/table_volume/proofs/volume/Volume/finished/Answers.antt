@@ -11,7 +11,8 @@ use Rattle.volume_contract.specs.Pieces.{in_leader, slices_if, slices_in}
 use Rattle.volume_contract.specs.State.{Leaves, OpenParts, change_len}
 use Rattle.volume_laws.specs.Completed.{draft_of}
 use Rattle.volume_laws.specs.State.{IsMemoryOf, resident, state}
-use Rattle.volume_laws.proofs.CountedLaws.{counted_fewer, counted_then}
+use Rattle.volume_contract.proofs.CountedLaws.{counted_then}
+use Rattle.volume_laws.proofs.CountedLaws.{counted_fewer}
 use Rattle.volume_laws.proofs.ForceMomentLaws.{touches_none}
 use Rattle.volume_laws.proofs.FreeStays.{version_stays}
 use Rattle.volume_laws.proofs.LeaderWriteLaws.{slices_kept, stands_led}

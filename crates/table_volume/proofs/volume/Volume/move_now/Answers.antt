@@ -20,7 +20,8 @@ use Rattle.volume_laws.proofs.ChangeEnds.{look_ended}
 use Rattle.volume_laws.proofs.DeleteEnds.{met_ended}
 use Rattle.volume_laws.proofs.EditedLaws.{edits_looked, state_looked}
 use Rattle.volume_laws.proofs.EntryLaws.{met_refused}
-use Rattle.volume_laws.proofs.MoveCalls.{look_some, moves_some, moving_follows, other_fault}
+use Rattle.volume_laws.proofs.AbsentLaws.{not_look_up}
+use Rattle.volume_laws.proofs.MoveCalls.{moves_some, moving_follows, other_fault}
 use Rattle.volume_laws.proofs.MoveEnds.{move_none}
 use Rattle.table_volume.proofs.volume.Volume.move_now.Goals as goal
 
@@ -47,7 +48,7 @@ returns-in_err-found-clause-tells g c =
     record {
       named = rw p.1 tt;
       causes = rw (p.1, p.2) c.in_err-found.ensures.looks.causes;
-      absent = other_fault c.from_residual.result c.in_err-found.field-0.0 c.from_residual.ensures.1 (look_some c.in_err-found.field-0.0 c.in_err-found.ensures.looks.cause);
+      absent = other_fault c.from_residual.result c.in_err-found.field-0.0 c.from_residual.ensures.1 (not_look_up c.in_err-found.field-0.0 c.in_err-found.ensures.looks.cause);
       found = rw p.1 tt;
     }
 
@@ -111,7 +112,7 @@ returns-in_err-met_entry-in-Some-clause-tells g c =
       named = rw p.1 tt;
       causes = rw (p.1, p.2)
           (met_handed g.M.Machine (resident v) (state v) (state c.find.new.self) c.args.m.now c.find.new.m c.find.new.self _ c.in-Some.found c.in-Some.is c.in_ok-found.ensures.looks.met (Err why) c.in_err-met_entry-in-Some.ensures);
-      absent = other_fault r.result why r.ensures.1 (look_some why (subst IsLookUp (sym met.0) tt));
+      absent = other_fault r.result why r.ensures.1 (not_look_up why (subst IsLookUp (sym met.0) tt));
       found = rw p.1 tt;
     }
 

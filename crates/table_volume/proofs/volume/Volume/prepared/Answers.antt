@@ -9,7 +9,8 @@ use Rattle.volume_contract.specs.State.{Counted, change_len, put_len}
 use Rattle.volume_laws.specs.Placing.{store_len, store_steps}
 use Rattle.volume_laws.specs.State.{resident, state}
 use Rattle.volume_laws.proofs.BehindLaws.{prepared_behind}
-use Rattle.volume_laws.proofs.CountedLaws.{counted_fewer, counted_then, put_len_is, store_within}
+use Rattle.volume_contract.proofs.CountedLaws.{counted_then}
+use Rattle.volume_laws.proofs.CountedLaws.{counted_fewer, put_len_is, store_within}
 use Rattle.volume_laws.proofs.FreeStays.{free_data, version_stays}
 use Rattle.volume_laws.proofs.PrepareLaws.{ends_behind, ends_ready, ends_stored, last, leaves_ready, prepares_done, prepares_failed, prepares_refused}
 use Rattle.volume_laws.proofs.PutCauses.{force_cause}

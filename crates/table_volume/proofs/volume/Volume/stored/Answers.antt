@@ -13,7 +13,8 @@ use Rattle.volume_laws.specs.Placing.{EndsPlace, IsPlace, Places, StandsFor, Sto
 use Rattle.volume_laws.specs.State.{IsMemoryOf, resident, state}
 use Rattle.volume_laws.specs.Volume.{VolumeValue}
 use Rattle.volume_laws.proofs.BehindLaws.{written_behind}
-use Rattle.volume_laws.proofs.CountedLaws.{counted_fewer, counted_then}
+use Rattle.volume_contract.proofs.CountedLaws.{counted_then}
+use Rattle.volume_laws.proofs.CountedLaws.{counted_fewer}
 use Rattle.volume_laws.proofs.PutCauses.{written_causes}
 use Rattle.volume_laws.proofs.StepLaws.{idle_front}
 use Rattle.volume_laws.proofs.StoreLaws.{busy_store, drawn_stands, ends_failed, ends_refused, leaves_first, leaves_then, same_serial, stores_done, stores_failed, stores_refused, touches_first, touches_placed}
