@@ -11,7 +11,7 @@ use Rattle.group_commit.specs.contracts.newest.NewestPageSource.TheImpl as by_lo
 use Rattle.log_thirds.specs.LogValue.{LogValue}
 use Rattle.page_cache.specs.Cache.{CacheValue}
 use Rattle.version_table.specs.declared.oldest.Leaving.{Leaving}
-use Rattle.volume_contract.specs.Order.{Comes, Follows, Force, IsLookUp, by_itself}
+use Rattle.volume_contract.specs.Order.{Comes, Follows, Force, by_itself}
 use Rattle.volume_contract.specs.State.{State, forces_first}
 use Rattle.cached_table.specs.Entering.{AreInTurn}
 use Rattle.cached_table.specs.Moving.{NoneMoves}
