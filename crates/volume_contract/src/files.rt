@@ -132,7 +132,7 @@ pub trait Files<M: Machine>: Sized {
 
     /// Makes a version the next one of a name, and answers its new key. Its bytes, its sectors and its serial stay, and no
     /// data sector is written. Whoever holds the version reads on. Its keep is that of the name's highest version, where
-    /// there is one, or stays; of the name's other versions the oldest goes where they are as many as the keep.
+    /// there is one, or stays. Where that is not 0 and the name has more versions then, the oldest goes, one at most.
     fn move_to(&mut self, m: &mut M, key: &Key, name: &FileName) -> Result<Key, Refusal>
         requires { (state self.old).layout.sectors ≤ (M.report m.old).sectors }
         ensures order { InOrder (move_steps (state self.old)) m.old m.new result }
