@@ -10,6 +10,9 @@ pub enum Refusal {
     /// More bytes than a version may have: so many.
     #[error("{0} bytes are too many for a version")]
     TooLong(u64),
+    /// The key is a version already.
+    #[error("there is such a version")]
+    Exists,
     /// Fewer sectors are free than are needed.
     #[error("{need} sectors are needed and {free} are free")]
     NoSpace { need: u32, free: u32 },

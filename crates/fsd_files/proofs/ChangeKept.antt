@@ -11,7 +11,7 @@ use Rattle.fsd_bytes.specs.declared.key.Serial.{Serial}
 use Rattle.fsd_bytes.specs.Keys.{key_cmp, same_key}
 use Rattle.run_table.specs.declared.run.Run.{Run}
 use Rattle.fsd_formats.specs.declared.entry.Entry.{Entry}
-use Rattle.fsd_files.specs.Answers.{deleted, entries_with_keep, entry_kept, entry_of, entry_put, highest_entry, keep_set, moved_entry, new_entry, with_version, with_version_moved}
+use Rattle.fsd_files.specs.Answers.{deleted, entries_with_keep, entry_kept, entry_of, entry_put, highest_entry, keep_set, moved_entry, new_entry, with_version, with_version_moved, loaded_entry, with_loaded}
 use Rattle.fsd_files.specs.Disk.{Image, Sectors}
 use Rattle.fsd_files.specs.Files.{File, Files, file_kept, gone_by_move, gone_keys, highest, kept_at, moved_keep, moved_to, new_key, new_keep, with_keep, with_moved, with_new}
 use Rattle.fsd_files.specs.Kept.{Kept, KeptIn, Lists}
@@ -55,6 +55,11 @@ module _ (hurt : Sectors) (i : Image) where
       let e : Entry = new_entry v name bytes given runs serial in
       kept_passed (λ k. not (list_any (same_key k) (gone_keys name given bytes v.files))) (with_new name given bytes v.files) (entry_put e v.entries)
       (lists_put (new_key name v.files) x e v.files v.entries (record { key = refl; keep = refl; length = refl }) lists) (kept_put (new_key name v.files) x e v.files v.entries refl new lists kept)
+
+  pub load_kept : (v : Volume) (key : Key) (keep : ℕ) (bytes : List ℕ) (runs : List Run) (serial : Serial) (r : ℕ) → Lists v.files v.entries → Kept i v.files v.entries hurt → KeptIn i hurt bytes runs
+      → Kept i (with_loaded v key keep bytes runs serial r).files (with_loaded v key keep bytes runs serial r).entries hurt
+  load_kept v key keep bytes runs serial r lists kept new =
+      kept_put key (record { bytes = bytes; keep = keep }) (loaded_entry key keep bytes runs serial) v.files v.entries refl new lists kept
 
   pub delete_kept : (v : Volume) (key : Key) (r : ℕ) (e : Entry) → Lists v.files v.entries → Kept i v.files v.entries hurt → Kept i (deleted v key r (Some e)).1.files (deleted v key r (Some e)).1.entries hurt
   delete_kept v key r e lists kept = kept_passed (λ k. not (list_any (same_key k) (key ∷ []))) v.files v.entries lists kept

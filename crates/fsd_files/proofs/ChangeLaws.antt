@@ -18,7 +18,7 @@ use Rattle.run_table.specs.declared.run.Run.{Run}
 use Rattle.run_table.specs.RunTable.{same_runs, sectors_of}
 use Rattle.run_table.specs.Space.{contains, all_differ}
 use Rattle.fsd_formats.specs.declared.entry.Entry.{Entry}
-use Rattle.fsd_files.specs.Answers.{deleted, entry_kept, entry_of, entry_put, entries_with_keep, gone_sectors, keep_set, moved_entry, new_entry, with_version, with_version_moved}
+use Rattle.fsd_files.specs.Answers.{deleted, entry_kept, entry_of, entry_put, entries_with_keep, gone_sectors, keep_set, moved_entry, new_entry, with_version, with_version_moved, loaded_entry, with_loaded}
 use Rattle.fsd_files.specs.Files.{File, gone_by_move, gone_keys, new_key}
 use Rattle.fsd_files.specs.Kept.{Lists}
 use Rattle.fsd_files.specs.Space.{Apart}
@@ -112,6 +112,10 @@ later p s e z old new rest = record { most = (both (p z)).0; least = (both (p z)
         let least = rest.least in
         (omega (arith, used-cons s z.runs (plans_of (filter p new)), used-cons s z.runs (plans_of (filter p old)), most), omega (arith, used-cons s z.runs (plans_of (filter p new)), used-cons s z.runs (plans_of (filter p old)), least))
     both false = (rest.most, rest.least)
+
+none_left_out : (entries : List Entry) → filter (λ x. true) entries ≡ entries
+none_left_out [] = refl
+none_left_out (z ∷ entries) = ap (λ (xs : List Entry). z ∷ xs) (none_left_out entries)
 
 puts : (p : Entry → Bool) (s : ℕ) (e : Entry) (entries : List Entry) → IsAbsent e.key entries → Puts p s e entries (entry_put e entries)
 puts p s e [] absent = in_front p s e []
@@ -459,6 +463,59 @@ pub version_changes : (v : Volume) (name bytes : List ℕ) (given : Option ℕ) 
     → Changes v (with_version v name bytes given runs serial r)
 version_changes v name bytes given runs serial r absent free spaced =
     changes_then v (with_version v name bytes given runs serial r) (gone_keys name given bytes v.files) runs (version_moves v name bytes given runs serial r absent) free spaced
+
+-- a version that is loaded: none goes
+absent_key : (key : Key) (entries : List Entry) → entry_of key entries ≡ None → IsAbsent key entries
+absent_key key [] none = tt
+absent_key key (z ∷ entries) none = by (λ h. absent_key key entries h) (same_key z.key key) refl none
+  where
+    by : (entry_of key entries ≡ None → IsAbsent key entries) → (b : Bool) → same_key z.key key ≡ b → cond b (Some z) (entry_of key entries) ≡ None → IsAbsent key (z ∷ entries)
+    by again true same none = absurd cc
+    by again false other none = ((λ e. absurd (let bad : true ≡ false = sym (ap is_eq e) ∙ same_key_turned key z.key ∙ other in cc)), again none)
+
+load_moves : (v : Volume) (key : Key) (keep : ℕ) (bytes : List ℕ) (runs : List Run) (serial : Serial) (r : ℕ) → IsAbsent key v.entries → Moves v (with_loaded v key keep bytes runs serial r) [] runs
+load_moves v key keep bytes runs serial r absent =
+    let e = loaded_entry key keep bytes runs serial in
+    record {
+      layout = refl;
+      unforced = refl;
+      epoch = refl;
+      held = refl;
+      drafts = refl;
+      removed = sym (append-nil v.removed) ∙ ap (λ (x : List Entry). v.removed ++ flat_map sectors_of (plans_of x)) (sym (entries_at_none v.entries));
+      most = λ s. let all = each s in omega (arith, all.0);
+      least = λ s. let all = each s in omega (arith, all.1);
+      each = λ q here all. each_put (λ x. q x.runs) e v.entries here all;
+    }
+  where
+    each : (s : ℕ) → (used s (plans_of (entry_put (loaded_entry key keep bytes runs serial) v.entries)) ≤ occurs s (sectors_of runs) + used s (plans_of (entries_without [] v.entries)))
+        × (used s (plans_of (entries_without [] v.entries)) ≤ used s (plans_of (entry_put (loaded_entry key keep bytes runs serial) v.entries)))
+    each s =
+        let e : Entry = loaded_entry key keep bytes runs serial in
+        let all = puts (λ x. true) s e v.entries absent in
+        let old : used s (plans_of (entries_without [] v.entries)) ≡ used s (plans_of v.entries) = ap (λ (x : List Entry). used s (plans_of x)) (entries_without_none v.entries) in
+        let same : used s (plans_of (filter (λ x. true) v.entries)) ≡ used s (plans_of v.entries) = ap (λ (x : List Entry). used s (plans_of x)) (none_left_out v.entries) in
+        let new : used s (plans_of (filter (λ x. true) (entry_put e v.entries))) ≡ used s (plans_of (entry_put e v.entries)) = ap (λ (x : List Entry). used s (plans_of x)) (none_left_out (entry_put e v.entries)) in
+        (omega (arith, all.most, old, same, new), omega (arith, all.least, old, same, new))
+
+-- a load that has found a place, up to its change
+pub load_changes : (chosen : Bool) (v : Volume) (key : Key) (keep : ℕ) (bytes : List ℕ) (need : ℕ) (runs : List Run) (serial : Serial) (r : ℕ) → IsSpaced v → entry_of key v.entries ≡ None
+    → place_for v need ≡ Some runs → Changes (forced_if chosen (drawn v)) (with_loaded (forced_if chosen (drawn v)) key keep bytes runs serial r)
+load_changes chosen v key keep bytes need runs serial r spaced none place =
+    let at = forced_if chosen (drawn v) in
+    changes_then at (with_loaded at key keep bytes runs serial r) [] runs (load_moves at key keep bytes runs serial r (absent (chosen && nat_le 2 v.unforced)))
+    (still_free chosen v runs (subst (λ (o : Option (List Run)). IfSome o (AreFree v)) place (place_is_free v need))) (space (chosen && nat_le 2 v.unforced))
+  where
+    absent : (b : Bool) → IsAbsent key (cond b (forced (drawn v)) (drawn v)).entries
+    absent true = absent_key key v.entries none
+    absent false = absent_key key v.entries none
+
+    drawn_spaced : IsSpaced (drawn v)
+    drawn_spaced = record { apart = spaced.apart; area = spaced.area; drafts = spaced.drafts; removed = spaced.removed; held = spaced.held }
+
+    space : (b : Bool) → IsSpaced (cond b (forced (drawn v)) (drawn v))
+    space true = forced_is_spaced (drawn v) drawn_spaced
+    space false = drawn_spaced
 
 delete_moves : (v : Volume) (key : Key) (r : ℕ) (e : Entry) → Moves v (deleted v key r (Some e)).1 (key ∷ []) []
 delete_moves v key r e = record {

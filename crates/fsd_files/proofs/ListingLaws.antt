@@ -21,7 +21,7 @@ use Rattle.fsd_formats.specs.NamePage.{sectors_for, max_keep}
 use Rattle.fsd_files.specs.Files.{File, Files, highest, without_keys, new_key, new_keep, with_new, with_moved, gone_keys, gone_by_move, kept_at, file_kept, moved_keep, moved_to, with_keep}
 use Rattle.fsd_files.specs.Kept.{IsEntryOf, Lists}
 use Rattle.fsd_files.specs.Volume.{Volume, forced, forced_for_place, forced_if, drawn, place_for, entries_at, entries_without}
-use Rattle.fsd_files.specs.Answers.{Met, refused, entry_put, entry_of, entry_kept, entries_with_keep, highest_entry, with_version, enter_fault, entered_unless, put_at, put_unless, keep_given, size_fault, deleted, keep_set, moved, moved_entry, moved_unless, with_version_moved, put_outcome, delete_outcome, keep_outcome, move_outcome}
+use Rattle.fsd_files.specs.Answers.{Met, refused, entry_put, entry_of, entry_kept, entries_with_keep, highest_entry, with_version, enter_fault, entered_unless, put_at, put_unless, keep_given, size_fault, deleted, keep_set, moved, moved_entry, moved_unless, with_version_moved, put_outcome, delete_outcome, keep_outcome, move_outcome, load_at, load_fault, load_outcome, load_unless, loaded_entry, loaded_unless}
 use Rattle.fsd_files.proofs.HistoryLaws.{keys_total}
 
 -- ---- keys that compare alike are one
@@ -168,6 +168,27 @@ put_listed None met v name bytes given lists =
 
 pub puts_listed : (met : Met) (v : Volume) (name bytes : List ℕ) (given : Option ℕ) → IsListed v → IsListed (put_outcome met v name bytes given).1
 puts_listed met v name bytes given lists = put_listed (size_fault (keep_given given) (length bytes)) met v name bytes given lists
+
+loaded_listed : (v : Volume) (key : Key) (keep : ℕ) (bytes : List ℕ) (runs : List Run) (serial : Serial) (r : ℕ) (o : Option Refusal) → IsListed v → IsListed (loaded_unless o v key keep bytes runs serial r).1
+loaded_listed v key keep bytes runs serial r (Some why) lists = lists
+loaded_listed v key keep bytes runs serial r None lists =
+    lists_put key (record { bytes = bytes; keep = keep }) (loaded_entry key keep bytes runs serial) v.files v.entries (record { key = refl; keep = refl; length = refl }) lists
+
+load_placed : (met : Met) (v : Volume) (key : Key) (keep : ℕ) (bytes : List ℕ) (need : ℕ) (o : Option (List Run)) → IsListed v → IsListed (load_at met v key keep bytes need o).1
+load_placed met v key keep bytes need None lists = lists
+load_placed met v key keep bytes need (Some runs) lists =
+    let at = forced_if met.forces (drawn v) in
+    loaded_listed at key keep bytes runs v.serial met.reached (load_fault at key) (forced_listed (met.forces && nat_le 2 v.unforced) (drawn v) lists)
+
+load_listed : (o : Option Refusal) (met : Met) (v : Volume) (key : Key) (keep : ℕ) (bytes : List ℕ) → IsListed v → IsListed (load_unless o met v key keep bytes).1
+load_listed (Some why) met v key keep bytes lists = lists
+load_listed None met v key keep bytes lists =
+    let need = sectors_for (length bytes) in
+    let at = forced_for_place need v in
+    load_placed met at key keep bytes need (place_for at need) (forced_listed (is_none (place_for v need) && not (length v.removed == 0)) v lists)
+
+pub loads_listed : (met : Met) (v : Volume) (key : Key) (keep : ℕ) (bytes : List ℕ) → IsListed v → IsListed (load_outcome met v key keep bytes).1
+loads_listed met v key keep bytes lists = load_listed (size_fault keep (length bytes)) met v key keep bytes lists
 
 deleted_listed : (v : Volume) (key : Key) (r : ℕ) (o : Option Entry) → IsListed v → IsListed (deleted v key r o).1
 deleted_listed v key r None lists = lists

@@ -1,6 +1,6 @@
 -- What a volume answers, and what the volume is then. What its words and the volume determine is a function; what they
 -- do not is `Met`. Faults of the disk, want of memory and a mount that is worn out stand outside.
-use Rattle.std.specs.Prelude.{ℕ, suc, Bool, List, [], ◌∷◌, ◌++◌, length, map, filter, Option, Some, None, IfSome, nat_lt, if◌then◌else◌, slice_get}
+use Rattle.std.specs.Prelude.{ℕ, suc, Bool, List, [], ◌∷◌, ◌++◌, length, map, filter, Option, Some, None, IfSome, is_some, nat_lt, if◌then◌else◌, slice_get}
 use Rattle.std.specs.List.{flat_map, last_or, AllByRecursion}
 use Rattle.std.specs.FinMap.{find}
 use Rattle.std.specs.FinMap.Entries.{by_order}
@@ -9,7 +9,7 @@ use Rattle.fsd_bytes.specs.declared.key.Key.{Key}
 use Rattle.fsd_bytes.specs.declared.key.Serial.{Serial}
 use Rattle.fsd_bytes.specs.declared.pattern.Pattern.{Pattern}
 use Rattle.fsd_bytes.specs.declared.refusal.Refusal.{Refusal}
-use Rattle.fsd_bytes.specs.declared.refusal.Refusal.TheVariants.{NoSuch, TooLong, NoSpace, TooFragmented, NameTableFull, VersionsUsedUp, KeepTooLarge, LayoutIs}
+use Rattle.fsd_bytes.specs.declared.refusal.Refusal.TheVariants.{NoSuch, Exists, TooLong, NoSpace, TooFragmented, NameTableFull, VersionsUsedUp, KeepTooLarge, LayoutIs}
 use Rattle.fsd_bytes.specs.Keys.{key_cmp, key_lt, same_key, max_u32, fits}
 use Rattle.volume_layout.specs.declared.kind.Kind.{Kind}
 use Rattle.volume_layout.specs.declared.kind.Kind.TheVariants.{Two, Three}
@@ -24,7 +24,7 @@ use Rattle.fsd_files.specs.Disk.{Image, Sectors, Has}
 use Rattle.fsd_files.specs.Files.{File, Change, step, new_key, new_keep, gone_keys, moved_keep, gone_by_move}
 use Rattle.fsd_files.specs.Kept.{FirstDamaged, IsWhole, KeptIn, range_sectors}
 use Rattle.fsd_files.specs.declared.reply.Reply.{Reply}
-use Rattle.fsd_files.specs.declared.reply.Reply.TheVariants.{Refused, Made, Deleted, Kept, Moved, Listed, Bytes, DamagedAt, Forced, Counts, Scrubbed, Upgraded, Found}
+use Rattle.fsd_files.specs.declared.reply.Reply.TheVariants.{Refused, Made, Deleted, Kept, Moved, Listed, Bytes, DamagedAt, Forced, Counts, Scrubbed, Upgraded, Found, Loaded}
 use Rattle.fsd_files.specs.Volume.{Volume, plans_of, free_runs, free_count, waiting_count, pages_free, place_for, forced, forced_for_place, forced_if, drawn, entries_at, entries_without}
 
 -- a reply, and the volume as it leaves it
@@ -137,6 +137,48 @@ put_unless None met v name bytes given =
 
 abbrev pub put_outcome : Met → Volume → List ℕ → List ℕ → Option ℕ → Outcome
 put_outcome met v name bytes given = put_unless (size_fault (keep_given given) (length bytes)) met v name bytes given
+
+-- ---- loading one: its key and its keep are given, and none goes
+
+-- why a version can't have this key
+abbrev pub load_fault : Volume → Key → Option Refusal
+load_fault v key =
+    if is_some (entry_of key v.entries) then Some Exists
+    else (if nat_lt (pages_free v) least_pages then Some (NameTableFull (pages_free v)) else None)
+
+abbrev pub loaded_entry : Key → (keep : ℕ) → List ℕ → List Run → Serial → Entry
+loaded_entry key keep bytes runs serial = record { key = key; keep = keep; serial = serial; length = length bytes; runs = runs }
+
+-- the version takes its runs; r pages are reached then
+abbrev pub with_loaded : Volume → Key → (keep : ℕ) → List ℕ → List Run → Serial → ℕ → Volume
+with_loaded v key keep bytes runs serial r =
+    record v {
+      files = step v.files (Change.Load key keep bytes);
+      entries = entry_put (loaded_entry key keep bytes runs serial) v.entries;
+      reached = r;
+      unforced = suc v.unforced;
+    }
+
+abbrev pub loaded_unless : Option Refusal → Volume → Key → (keep : ℕ) → List ℕ → List Run → Serial → ℕ → Outcome
+loaded_unless (Some why) v key keep bytes runs serial r = refused v why
+loaded_unless None v key keep bytes runs serial r = (Loaded key, with_loaded v key keep bytes runs serial r)
+
+-- in the runs that were picked; the serial is drawn as they are
+abbrev pub load_at : Met → Volume → Key → (keep : ℕ) → List ℕ → (need : ℕ) → Option (List Run) → Outcome
+load_at met v key keep bytes need None = refused v (no_place v need)
+load_at met v key keep bytes need (Some runs) =
+    let at = forced_if met.forces (drawn v) in
+    loaded_unless (load_fault at key) at key keep bytes runs v.serial met.reached
+
+abbrev pub load_unless : Option Refusal → Met → Volume → Key → (keep : ℕ) → List ℕ → Outcome
+load_unless (Some why) met v key keep bytes = refused v why
+load_unless None met v key keep bytes =
+    let need = sectors_for (length bytes) in
+    let at = forced_for_place need v in
+    load_at met at key keep bytes need (place_for at need)
+
+abbrev pub load_outcome : Met → Volume → Key → (keep : ℕ) → List ℕ → Outcome
+load_outcome met v key keep bytes = load_unless (size_fault keep (length bytes)) met v key keep bytes
 
 -- ---- taking one out, and changing a keep
 

@@ -5,19 +5,21 @@ ghost use Rattle.fsd_bytes.specs.Keys.{key_cmp};
 ghost use Rattle.fsd_formats.specs.declared.entry.Entry.{Entry};
 ghost use Rattle.fsd_files.specs.Disk.{Image, Sectors, Within};
 ghost use Rattle.sector_disk.specs.Image.{IsWorn};
-ghost use Rattle.fsd_files.specs.Files.{File, Files, Change, step, after, gone_by_move, moved_keep, new_key};
+ghost use Rattle.fsd_files.specs.Files.{File, Files, Change, step, after, gone_by_move, moved_keep, new_key, loads_of};
 ghost use Rattle.fsd_files.specs.Kept.{Kept, KeptIn, Lists};
 ghost use Rattle.fsd_bytes.specs.declared.key.Key.{Key};
 ghost use Rattle.fsd_bytes.specs.declared.key.Serial.{Serial};
 ghost use Rattle.run_table.specs.declared.run.Run.{Run};
-ghost use Rattle.fsd_files.specs.Answers.{Met, put_outcome, delete_outcome, keep_outcome, move_outcome, deleted, entry_of, highest_entry, keep_set, with_version, with_version_moved};
+ghost use Rattle.fsd_files.specs.Answers.{Met, put_outcome, delete_outcome, keep_outcome, move_outcome, deleted, entry_of, highest_entry, keep_set, with_version, with_version_moved, load_outcome, with_loaded};
 ghost use Rattle.fsd_files.specs.Volume.{Volume, drawn, entries_without, forced, forced_if, place_for};
 ghost use Rattle.fsd_files.specs.Waiting.{Changes, IsSpaced};
 
-/// One change more is one step more, and the files always stand in the order of their keys.
+/// One change more is one step more, and the files always stand in the order of their keys. Files that stand so are made
+/// of none by loading their versions in order.
 pub fn files_after_changes()
     ensures steps { (h : List Change) (c : Change) → after (h ++ c ∷ []) ≡ step (after h) c }
     ensures order { (h : List Change) → T (is_sorted key_cmp (after h)) }
+    ensures loads { (s : Files) → T (is_sorted key_cmp s) → after (loads_of s) ≡ s }
 {}
 
 /// Wear may be nothing, and is nothing where no sector is weak. It adds up, and it leaves what is kept where damage may
@@ -34,6 +36,8 @@ pub fn wear()
 pub fn entries_list_the_files()
     ensures puts { (met : Met) (v : Volume) (name bytes : List ℕ) (given : Option ℕ) → Lists v.files v.entries →
         Lists (put_outcome met v name bytes given).1.files (put_outcome met v name bytes given).1.entries }
+    ensures loads { (met : Met) (v : Volume) (key : Key) (keep : ℕ) (bytes : List ℕ) → Lists v.files v.entries →
+        Lists (load_outcome met v key keep bytes).1.files (load_outcome met v key keep bytes).1.entries }
     ensures deletes { (met : Met) (v : Volume) (key : Key) → Lists v.files v.entries →
         Lists (delete_outcome met v key).1.files (delete_outcome met v key).1.entries }
     ensures keeps { (met : Met) (v : Volume) (name : List ℕ) (keep : ℕ) → Lists v.files v.entries →
@@ -59,6 +63,9 @@ pub fn changes_let_nothing_go()
     ensures puts { (chosen : Bool) (v : Volume) (name bytes : List ℕ) (given : Option ℕ) (need : ℕ) (runs : List Run) (serial : Serial) (r : ℕ) →
         IsSpaced v → Lists v.files v.entries → T (is_sorted key_cmp v.files) → place_for v need ≡ Some runs →
         Changes (forced_if chosen (drawn v)) (with_version (forced_if chosen (drawn v)) name bytes given runs serial r) }
+    ensures loads { (chosen : Bool) (v : Volume) (key : Key) (keep : ℕ) (bytes : List ℕ) (need : ℕ) (runs : List Run) (serial : Serial) (r : ℕ) →
+        IsSpaced v → entry_of key v.entries ≡ None → place_for v need ≡ Some runs →
+        Changes (forced_if chosen (drawn v)) (with_loaded (forced_if chosen (drawn v)) key keep bytes runs serial r) }
     ensures deletes { (v : Volume) (key : Key) (r : ℕ) (e : Entry) → IsSpaced v → Changes v (deleted v key r (Some e)).1 }
     ensures keeps { (v : Volume) (name : List ℕ) (keep r : ℕ) (e : Entry) → IsSpaced v → Changes v (keep_set v name keep r (Some e)).1 }
     ensures moves { (v : Volume) (key : Key) (name : List ℕ) (x : File) (e : Entry) (r : ℕ) →
@@ -71,6 +78,9 @@ pub fn changes_keep_what_stays()
     ensures puts { (hurt : Sectors) (i : Image) (v : Volume) (name bytes : List ℕ) (given : Option ℕ) (runs : List Run) (serial : Serial) (r : ℕ) →
         Lists v.files v.entries → Kept i v.files v.entries hurt → KeptIn i hurt bytes runs →
         Kept i (with_version v name bytes given runs serial r).files (with_version v name bytes given runs serial r).entries hurt }
+    ensures loads { (hurt : Sectors) (i : Image) (v : Volume) (key : Key) (keep : ℕ) (bytes : List ℕ) (runs : List Run) (serial : Serial) (r : ℕ) →
+        Lists v.files v.entries → Kept i v.files v.entries hurt → KeptIn i hurt bytes runs →
+        Kept i (with_loaded v key keep bytes runs serial r).files (with_loaded v key keep bytes runs serial r).entries hurt }
     ensures deletes { (hurt : Sectors) (i : Image) (v : Volume) (key : Key) (r : ℕ) (e : Entry) → Lists v.files v.entries → Kept i v.files v.entries hurt →
         Kept i (deleted v key r (Some e)).1.files (deleted v key r (Some e)).1.entries hurt }
     ensures keeps { (hurt : Sectors) (i : Image) (v : Volume) (name : List ℕ) (keep r : ℕ) (e : Entry) → Lists v.files v.entries → highest_entry name v.entries ≡ Some e →

@@ -11,6 +11,7 @@ pub enum Reply {
         key: Key,
         sectors: u32,
     },
+    Loaded(Key),
     Deleted(Key),
     /// The key of the name's highest version, whose keep it is now.
     Kept {

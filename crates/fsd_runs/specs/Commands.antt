@@ -9,7 +9,7 @@ use Rattle.fsd_files.specs.Answers.{Met, Outcome, put_outcome, delete_outcome, k
 use Rattle.fsd_files.specs.Disk.{Image}
 use Rattle.fsd_files.specs.Files.{Change}
 use Rattle.fsd_files.specs.declared.reply.Reply.{Reply}
-use Rattle.fsd_files.specs.declared.reply.Reply.TheVariants.{Refused, Made, Deleted, Kept, Moved, Listed, Bytes, DamagedAt, Forced, Counts, Scrubbed, Upgraded, Begun, Took, Dropped, Opened, Given, Done, Found}
+use Rattle.fsd_files.specs.declared.reply.Reply.TheVariants.{Refused, Made, Deleted, Kept, Moved, Listed, Bytes, DamagedAt, Forced, Counts, Scrubbed, Upgraded, Begun, Took, Dropped, Opened, Given, Done, Found, Loaded}
 use Rattle.fsd_files.specs.Scrub.{Picks, all_data}
 use Rattle.fsd_files.specs.Volume.{Volume}
 use Rattle.fsd_texts.specs.declared.command.Command.{Command}
@@ -118,7 +118,8 @@ reply_text (Dropped client) = line (codes "dropped" ∷ number client ∷ [])
 reply_text (Opened client len) = line (codes "opened" ∷ number client ∷ number len ∷ [])
 reply_text (Given client bytes) = line (codes "next" ∷ number client ∷ number (length bytes) ∷ []) ++ bytes ++ newline
 reply_text (Done client) = line (codes "done" ∷ number client ∷ [])
--- no command of a script is answered so
+-- of a load nothing is said, and no command of a script is answered so
+reply_text (Loaded key) = []
 reply_text (Found entry) = []
 
 -- what a command by itself says: a get the bytes alone

@@ -1,7 +1,7 @@
 -- The lines that are said.
 use Rattle.std.specs.Prelude.{ℕ, ◌-◌, List, [], ◌∷◌, ◌++◌, Result, Ok, Err, codes, decimal}
 use Rattle.fsd_bytes.specs.declared.refusal.Refusal.{Refusal}
-use Rattle.fsd_bytes.specs.declared.refusal.Refusal.TheVariants.{NoSuch, TooLong, NoSpace, TooFragmented, NameTableFull, VersionsUsedUp, KeepTooLarge, BadClient, Busy, Idle, Short, Long, LayoutIs}
+use Rattle.fsd_bytes.specs.declared.refusal.Refusal.TheVariants.{NoSuch, Exists, TooLong, NoSpace, TooFragmented, NameTableFull, VersionsUsedUp, KeepTooLarge, BadClient, Busy, Idle, Short, Long, LayoutIs}
 use Rattle.fsd_bytes.specs.Keys.{key_text}
 use Rattle.volume_layout.specs.declared.layout.Layout.{Layout}
 use Rattle.volume_layout.specs.Layout.{data_start}
@@ -38,6 +38,7 @@ part_text (Parts.Number n) = number n
 
 abbrev pub refusal_words : Refusal → List (List ℕ)
 refusal_words NoSuch = codes "no-such" ∷ []
+refusal_words Exists = codes "exists" ∷ []
 refusal_words (TooLong n) = codes "too-long" ∷ number n ∷ []
 refusal_words (NoSpace need free) = codes "no-space" ∷ number need ∷ number free ∷ []
 refusal_words (TooFragmented need best) = codes "fragmented" ∷ number need ∷ number best ∷ []

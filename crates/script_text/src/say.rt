@@ -122,6 +122,7 @@ fn refused_text(why: Refusal) -> LineText
 {
     match why {
         Refusal::NoSuch => words("refused no-such\n"),
+        Refusal::Exists => words("refused exists\n"),
         Refusal::TooLong(length) => numbered("refused too-long ", length),
         Refusal::NoSpace { need, free } => {
             paired("refused no-space ", u64::from(need), u64::from(free))

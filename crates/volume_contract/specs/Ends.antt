@@ -14,7 +14,7 @@ use Rattle.fsd_files.specs.Disk.{Image}
 use Rattle.fsd_files.specs.Files.{File, Change}
 use Rattle.fsd_files.specs.Kept.{FirstDamaged, IsWhole, range_sectors}
 use Rattle.fsd_files.specs.declared.reply.Reply.{Reply}
-use Rattle.fsd_files.specs.declared.reply.Reply.TheVariants.{Refused, Made, Kept, Found}
+use Rattle.fsd_files.specs.declared.reply.Reply.TheVariants.{Refused, Made, Loaded, Kept, Found}
 use Rattle.fsd_files.specs.Volume.{Volume, drawn, forced}
 use Rattle.fsd_sound.specs.Laid.{HasOwnRoots}
 use Rattle.fsd_sound.specs.Mounted.{Mounted, forces_by_itself, telling_of}
@@ -92,6 +92,19 @@ module _ {S : Type 0} (state : S → State) (has : S → Mounted → List Placed
   abbrev pub EndsPut : (Met → Outcome) → (bytes : List ℕ) → Change → Known → S → Moment → Result Key Refusal → Type 0
   EndsPut outcome bytes change k new now (Ok key) = MakesVersion outcome bytes change k new now key
   EndsPut outcome bytes change k new now (Err why) = EndsRefused outcome k new now why
+
+  -- The version of this key is loaded, and stands whole with its leader.
+  pub record LoadsVersion (outcome : Met → Outcome) (bytes : List ℕ) (change : Change) (k : Known) (new : S) (now : Moment) (key : Key) : Type 0 where
+    pub after : Known
+    pub answers : Answers outcome (Loaded key) (change ∷ []) k after
+    pub stands : Stands state has new after now
+    pub entry : Entry
+    pub entered : entry_of key (volume_of after).entries ≡ Some entry
+    pub written : HasVersion (open_damage now.windows) now.image bytes entry
+
+  abbrev pub EndsLoad : {T : Type 0} → (Met → Outcome) → (bytes : List ℕ) → Change → Key → Known → S → Moment → Result T Refusal → Type 0
+  EndsLoad outcome bytes change key k new now (Ok x) = LoadsVersion outcome bytes change k new now key
+  EndsLoad outcome bytes change key k new now (Err why) = EndsRefused outcome k new now why
 
   -- ---- forces
 

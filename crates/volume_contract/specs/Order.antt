@@ -169,11 +169,17 @@ module _ (s : State) where
 
   -- ---- the calls
 
-  -- no page waits behind the force that a place asks for
+  -- No page waits behind the force that a place asks for. The look-up may show that the version can't be.
+  abbrev pub making_steps : Refusal → (keep len : ℕ) → List CallStep
+  making_steps why keep len = let need = sectors_for len in
+      down ∷ Test (size_fault keep len) ∷ worn ∷ Force (forces_for_place s need) ∷ place need ∷ Draw ∷ Disk (in_place (place_in s need))
+      ∷ Force (forces_first s && not (forces_for_place s need)) ∷ LookUp ∷ Asks why ∷ table_full ∷ Fetch ∷ []
+
   abbrev pub put_steps : Option ℕ → ℕ → List CallStep
-  put_steps keep len = let need = sectors_for len in
-      down ∷ Test (size_fault (keep_given keep) len) ∷ worn ∷ Force (forces_for_place s need) ∷ place need ∷ Draw ∷ Disk (in_place (place_in s need))
-      ∷ Force (forces_first s && not (forces_for_place s need)) ∷ LookUp ∷ Asks Why.VersionsUsedUp ∷ table_full ∷ Fetch ∷ []
+  put_steps keep len = making_steps Why.VersionsUsedUp (keep_given keep) len
+
+  abbrev pub load_steps : (keep len : ℕ) → List CallStep
+  load_steps keep len = making_steps Why.Exists keep len
 
   abbrev pub delete_steps : List CallStep
   delete_steps = down ∷ worn ∷ by_itself ∷ LookUp ∷ Asks Why.NoSuch ∷ []

@@ -13,19 +13,19 @@ ghost use Rattle.fsd_formats.specs.NamePage.{sectors_for};
 ghost use Rattle.fsd_log.specs.Scan.{Placed};
 ghost use Rattle.fsd_files.specs.Files.{Change};
 ghost use Rattle.fsd_files.specs.declared.reply.Reply.TheVariants.{Forced as IsForced, Deleted, Moved};
-ghost use Rattle.fsd_files.specs.Answers.{entry_of, entry_reply, next_reply, put_outcome, delete_outcome, keep_outcome, move_outcome, force_outcome};
+ghost use Rattle.fsd_files.specs.Answers.{entry_of, entry_reply, next_reply, put_outcome, delete_outcome, keep_outcome, move_outcome, force_outcome, load_outcome};
 ghost use Rattle.fsd_files.specs.Kept.{data_sectors};
 ghost use Rattle.fsd_files.specs.Scrub.{leader_place, Sees, leader_count, slice_place};
 ghost use Rattle.fsd_sound.specs.Sound.{is_twin};
 ghost use Rattle.fsd_sound.specs.Mounted.{Mounted, image_at};
 ghost use Rattle.volume_contract.specs.State.{State, Known, Ages, WritesTold, WritesWithin, volume_of, Stands, HasCounted, IsForced as HasForced, HeldVersion, Leaves, put_writes, force_len, change_len, put_len, forces_first, forces_for_place, enters_again};
 ghost use Rattle.fsd_sound.specs.Writes.{force_writes};
-ghost use Rattle.volume_contract.specs.Order.{InOrder, IsDeviceRefusal, KeepsRefused, KeepsBy, put_steps, delete_steps, keep_steps, move_steps, entry_steps, next_steps, read_steps, reserve_steps, slices_steps, enter_steps, held_steps, force_steps, heal_steps, single_steps, upgrade_steps, is_root, with_three};
+ghost use Rattle.volume_contract.specs.Order.{InOrder, IsDeviceRefusal, KeepsRefused, KeepsBy, put_steps, delete_steps, keep_steps, move_steps, entry_steps, next_steps, read_steps, reserve_steps, slices_steps, enter_steps, held_steps, force_steps, heal_steps, single_steps, upgrade_steps, is_root, with_three, load_steps};
 ghost use Rattle.volume_contract.specs.Pieces.{IsDraft, IsHeldVersion, KeepsEnter, KeepsReserve, GivesBack, HoldsAt, Unholds, FitsDraft, reserve_len, slice_count, in_slices, in_leader, slices_in, slices_if, read_at, ended, with_opened, refusal_told, EndsReserve, EndsSlices, EndsEnter, EndsHold, ReadsHeld};
-ghost use Rattle.volume_contract.specs.Ends.{Ends, EndsPut, EndsForce, Closes, LooksUp, found_one, ReadsRange, kept_key, device_of};
+ghost use Rattle.volume_contract.specs.Ends.{Ends, EndsLoad, EndsPut, EndsForce, Closes, LooksUp, found_one, ReadsRange, kept_key, device_of};
 ghost use Rattle.volume_contract.specs.Causes.{Causes};
 ghost use Rattle.volume_contract.specs.Healing.{IsMet, LeavesWith, StandsStill};
-ghost use Rattle.volume_contract.specs.Telling.{TellsEntry, TellsForce, TellsGone, TellsHeld, TellsKept, TellsKey, TellsMoved, TellsLeader, TellsNext, TellsRange, TellsTwins};
+ghost use Rattle.volume_contract.specs.Telling.{TellsEntry, TellsForce, TellsGone, TellsHeld, TellsKept, TellsKey, TellsMoved, TellsLeader, TellsNext, TellsRange, TellsTwins, TellsLoad};
 ghost use Rattle.volume_contract.specs.Upgrade.{EndsUpgrade, RootsStand, is_fresh};
 ghost use Rattle.volume_contract.specs.Mount.{MountOpens, MountTells, MountHeals, MountsCalm, IsSoundAt, MountsSound};
 ghost use Rattle.fsd_sound.specs.Mounting.{device_of_mount};
@@ -106,6 +106,19 @@ pub trait Files<M: Machine>: Sized {
         ensures tells { TellsKey M.Machine (resident self.old) (state self.old) (state self.new) m.old m.new name.now result }
         ensures done { M.honest m.new → (k : Known) → Stands state holds self.old k (M.now m.old) →
             EndsPut state holds (λ met. put_outcome met (volume_of k) name.now bytes.now keep) bytes.now (Change.Put name.now keep bytes.now) k self.new (M.now m.new) result };
+
+    /// Makes a version with this key, this keep and these bytes; no version goes.
+    fn load(&mut self, m: &mut M, key: &Key, keep: u32, bytes: &[u8]) -> Result<(), Refusal>
+        requires { (state self.old).layout.sectors ≤ (M.report m.old).sectors }
+        ensures order { InOrder (load_steps (state self.old) keep (length bytes.now)) m.old m.new result }
+        ensures disk { let may = put_writes (state self.old) (sectors_for (length bytes.now)) in
+            WritesDisk M.Machine (device_in device_of result) (Leaves state holds self.old may) m.old m.new }
+        ensures writes { WritesWithin M.Machine (put_writes (state self.old) (sectors_for (length bytes.now))) (put_len (state self.old) (sectors_for (length bytes.now))) m.old m.new result }
+        ensures keeps { let s = state self.old in
+            KeepsBy (load_steps s keep (length bytes.now)) (HasCounted true (forces_for_place s (sectors_for (length bytes.now)) || forces_first s)) s (state self.new) result }
+        ensures tells { TellsLoad M.Machine (resident self.old) (state self.old) (state self.new) m.old m.new key.now result }
+        ensures done { M.honest m.new → (k : Known) → Stands state holds self.old k (M.now m.old) →
+            EndsLoad state holds (λ met. load_outcome met (volume_of k) key.now keep bytes.now) bytes.now (Change.Load key.now keep bytes.now) key.now k self.new (M.now m.new) result };
 
     /// Takes a version out.
     fn delete(&mut self, m: &mut M, key: &Key) -> Result<(), Refusal>

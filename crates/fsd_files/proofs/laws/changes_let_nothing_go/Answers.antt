@@ -1,4 +1,4 @@
-use Rattle.fsd_files.proofs.ChangeLaws.{delete_changes, keep_changes, move_changes, put_changes}
+use Rattle.fsd_files.proofs.ChangeLaws.{delete_changes, keep_changes, move_changes, put_changes, load_changes}
 use Rattle.fsd_files.proofs.WaitLaws.{forced_is_spaced}
 use Rattle.fsd_files.proofs.laws.changes_let_nothing_go.Goals as goal
 
@@ -16,3 +16,5 @@ returns-clause-forces c = forced_is_spaced
 
 pub returns-clause-moves : goal.returns-clause-moves
 returns-clause-moves c = move_changes
+pub returns-clause-loads : goal.returns-clause-loads
+returns-clause-loads c = load_changes
