@@ -4,6 +4,7 @@ pub mod Entering
 pub mod Finding
 pub mod HomeLaws
 pub mod Homes
+pub mod Loading
 pub mod Looking
 pub mod Moving
 pub mod Opening

@@ -25,7 +25,7 @@ use Rattle.fsd_files.specs.Space.{Apart}
 use Rattle.fsd_files.specs.Volume.{Volume, plans_of, is_in, in_version, waits, is_free, forced, forced_if, drawn, place_for, entries_at, entries_without}
 use Rattle.fsd_files.specs.Waiting.{Changes, IsSpaced, are_same_or_apart, is_kept_alone, is_leader, is_let_go}
 use Rattle.fsd_files.proofs.CountLaws.{one_where, occurs, occurs-append, used, used-cons, contains_occurs, occurs_contains, differ_occurs, occurs_differ, picked_once}
-use Rattle.fsd_files.proofs.FreshLaws.{IsAbsent, new_key_is_new}
+use Rattle.fsd_files.proofs.FreshLaws.{IsAbsent, absent_key, new_key_is_new}
 use Rattle.fsd_files.proofs.ListingLaws.{entries_at_none, entries_without_none}
 use Rattle.fsd_files.proofs.MoveLaws.{moved_used}
 use Rattle.fsd_files.proofs.WaitLaws.{forced_is_spaced}
@@ -465,14 +465,6 @@ version_changes v name bytes given runs serial r absent free spaced =
     changes_then v (with_version v name bytes given runs serial r) (gone_keys name given bytes v.files) runs (version_moves v name bytes given runs serial r absent) free spaced
 
 -- a version that is loaded: none goes
-absent_key : (key : Key) (entries : List Entry) → entry_of key entries ≡ None → IsAbsent key entries
-absent_key key [] none = tt
-absent_key key (z ∷ entries) none = by (λ h. absent_key key entries h) (same_key z.key key) refl none
-  where
-    by : (entry_of key entries ≡ None → IsAbsent key entries) → (b : Bool) → same_key z.key key ≡ b → cond b (Some z) (entry_of key entries) ≡ None → IsAbsent key (z ∷ entries)
-    by again true same none = absurd cc
-    by again false other none = ((λ e. absurd (let bad : true ≡ false = sym (ap is_eq e) ∙ same_key_turned key z.key ∙ other in cc)), again none)
-
 load_moves : (v : Volume) (key : Key) (keep : ℕ) (bytes : List ℕ) (runs : List Run) (serial : Serial) (r : ℕ) → IsAbsent key v.entries → Moves v (with_loaded v key keep bytes runs serial r) [] runs
 load_moves v key keep bytes runs serial r absent =
     let e = loaded_entry key keep bytes runs serial in

@@ -6,7 +6,7 @@ use Rattle.std.specs.Cmp.{nat_cmp_is}
 use Rattle.std.specs.Cmp.Lexicographic.{nat_list_cmp_total, slice_cmp}
 use Rattle.std.specs.FinMap.{is_sorted, put}
 use Rattle.std.specs.FinMap.Entries.{below_all, by_order}
-use Rattle.std.specs.Ordering.{is_lt, nat_cmp, ordering_then}
+use Rattle.std.specs.Ordering.{is_eq, is_lt, nat_cmp, ordering_then}
 use Rattle.std.specs.declared.cmp.Ordering.TheVariants.{Less, Equal, Greater}
 use Rattle.std.proofs.lemmas.Bool.{and_parts, cases_lt, false_from_ne_true}
 use Rattle.std.proofs.lemmas.Cmp.{tied_itself}
@@ -16,9 +16,10 @@ use Rattle.fsd_bytes.specs.declared.key.Key.{Key}
 use Rattle.fsd_bytes.specs.Keys.{key_cmp, same_key}
 use Rattle.fsd_formats.specs.declared.entry.Entry.{Entry}
 use Rattle.fsd_files.specs.Files.{File, Files, highest, new_key, of_name, version_of}
+use Rattle.fsd_files.specs.Answers.{entry_of}
 use Rattle.fsd_files.specs.Kept.{Lists}
 use Rattle.fsd_files.proofs.HistoryLaws.{put_in_order}
-use Rattle.fsd_files.proofs.ListingLaws.{alike_is, same_key_is}
+use Rattle.fsd_files.proofs.ListingLaws.{alike_is, same_key_is, same_key_turned}
 
 pub less_is : (x y : ℕ) → is_lt (nat_cmp x y) ≡ true → x < y
 less_is x y e = by (cases_lt x y)
@@ -92,6 +93,15 @@ to_T false is = absurd cc
 -- no entry has the key
 abbrev pub IsAbsent : Key → List Entry → Type 0
 IsAbsent key entries = AllByRecursion (λ z. key_cmp key z.key ≡ Equal → ⊥) entries
+
+-- so it is where none is found by it
+pub absent_key : (key : Key) (entries : List Entry) → entry_of key entries ≡ None → IsAbsent key entries
+absent_key key [] none = tt
+absent_key key (z ∷ entries) none = by (λ h. absent_key key entries h) (same_key z.key key) refl none
+  where
+    by : (entry_of key entries ≡ None → IsAbsent key entries) → (b : Bool) → same_key z.key key ≡ b → cond b (Some z) (entry_of key entries) ≡ None → IsAbsent key (z ∷ entries)
+    by again true same none = absurd (cc none)
+    by again false other none = ((λ e. absurd (let bad : true ≡ false = sym (ap is_eq e) ∙ same_key_turned key z.key ∙ other in cc)), again none)
 
 -- that of a new version
 pub new_key_is_new : (name : List ℕ) (s : Files) (entries : List Entry) → T (is_sorted key_cmp s) → Lists s entries → IsAbsent (new_key name s) entries

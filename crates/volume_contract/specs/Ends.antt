@@ -80,30 +80,21 @@ module _ {S : Type 0} (state : S → State) (has : S → Mounted → List Placed
   Ends outcome says change k new now (Ok x) = AnswersAndStands outcome (says x) (change ∷ []) k new now
   Ends outcome says change k new now (Err why) = EndsRefused outcome k new now why
 
-  -- The version of this key is made, and stands whole with its leader.
-  pub record MakesVersion (outcome : Met → Outcome) (bytes : List ℕ) (change : Change) (k : Known) (new : S) (now : Moment) (key : Key) : Type 0 where
+  -- The version of this key is made, is replied so, and stands whole with its leader.
+  pub record MakesVersion (outcome : Met → Outcome) (reply : Reply) (bytes : List ℕ) (change : Change) (k : Known) (new : S) (now : Moment) (key : Key) : Type 0 where
     pub after : Known
-    pub answers : Answers outcome (made_key (length bytes) key) (change ∷ []) k after
+    pub answers : Answers outcome reply (change ∷ []) k after
     pub stands : Stands state has new after now
     pub entry : Entry
     pub entered : entry_of key (volume_of after).entries ≡ Some entry
     pub written : HasVersion (open_damage now.windows) now.image bytes entry
 
   abbrev pub EndsPut : (Met → Outcome) → (bytes : List ℕ) → Change → Known → S → Moment → Result Key Refusal → Type 0
-  EndsPut outcome bytes change k new now (Ok key) = MakesVersion outcome bytes change k new now key
+  EndsPut outcome bytes change k new now (Ok key) = MakesVersion outcome (made_key (length bytes) key) bytes change k new now key
   EndsPut outcome bytes change k new now (Err why) = EndsRefused outcome k new now why
 
-  -- The version of this key is loaded, and stands whole with its leader.
-  pub record LoadsVersion (outcome : Met → Outcome) (bytes : List ℕ) (change : Change) (k : Known) (new : S) (now : Moment) (key : Key) : Type 0 where
-    pub after : Known
-    pub answers : Answers outcome (Loaded key) (change ∷ []) k after
-    pub stands : Stands state has new after now
-    pub entry : Entry
-    pub entered : entry_of key (volume_of after).entries ≡ Some entry
-    pub written : HasVersion (open_damage now.windows) now.image bytes entry
-
   abbrev pub EndsLoad : {T : Type 0} → (Met → Outcome) → (bytes : List ℕ) → Change → Key → Known → S → Moment → Result T Refusal → Type 0
-  EndsLoad outcome bytes change key k new now (Ok x) = LoadsVersion outcome bytes change k new now key
+  EndsLoad outcome bytes change key k new now (Ok x) = MakesVersion outcome (Loaded key) bytes change k new now key
   EndsLoad outcome bytes change key k new now (Err why) = EndsRefused outcome k new now why
 
   -- ---- forces

@@ -169,17 +169,18 @@ module _ (s : State) where
 
   -- ---- the calls
 
-  -- No page waits behind the force that a place asks for. The look-up may show that the version can't be.
-  abbrev pub making_steps : Refusal → (keep len : ℕ) → List CallStep
-  making_steps why keep len = let need = sectors_for len in
+  -- up to the look-up of a version that is made; no page waits behind the force that a place asks for
+  abbrev pub making_steps : (keep len : ℕ) → (behind : List CallStep) → List CallStep
+  making_steps keep len behind = let need = sectors_for len in
       down ∷ Test (size_fault keep len) ∷ worn ∷ Force (forces_for_place s need) ∷ place need ∷ Draw ∷ Disk (in_place (place_in s need))
-      ∷ Force (forces_first s && not (forces_for_place s need)) ∷ LookUp ∷ Asks why ∷ table_full ∷ Fetch ∷ []
+      ∷ Force (forces_first s && not (forces_for_place s need)) ∷ LookUp ∷ behind
 
   abbrev pub put_steps : Option ℕ → ℕ → List CallStep
-  put_steps keep len = making_steps Why.VersionsUsedUp (keep_given keep) len
+  put_steps keep len = making_steps (keep_given keep) len (Asks Why.VersionsUsedUp ∷ table_full ∷ Fetch ∷ [])
 
+  -- pages that break the table beside those of the look-up have no number left for a version
   abbrev pub load_steps : (keep len : ℕ) → List CallStep
-  load_steps keep len = making_steps Why.Exists keep len
+  load_steps keep len = making_steps keep len (Asks Why.Exists ∷ Asks Why.VersionsUsedUp ∷ table_full ∷ Fetch ∷ [])
 
   abbrev pub delete_steps : List CallStep
   delete_steps = down ∷ worn ∷ by_itself ∷ LookUp ∷ Asks Why.NoSuch ∷ []

@@ -45,10 +45,10 @@ module _ {D : Type 0} (M : Ghosts D) (resident : ℕ → Option (List ℕ)) (old
     pub name : IfOk result (λ key. key.name ≡ given)
     pub causes : Causes M resident old new before now result
 
-  -- of a version that is loaded: where it may not be, a leaf has an entry of its key
+  -- that a version of this key is loaded: where it may not be, a leaf that was reached has an entry of the key
   pub record TellsLoad {T : Type 0} (given : Key) (result : Result T Refusal) : Type 0 where
     pub causes : Causes M resident old new before now result
-    pub there : result ≡ Err Why.Exists → (e : Entry) × (e.key ≡ given) × ShowsReached M resident old new before now (HasEntry e)
+    pub there : result ≡ Err Why.Exists → ShowsReached M resident old new before now (HasKey given)
 
   -- the same of a keep that is set, and that the search takes no memory where enough is there
   pub record TellsKept (given : List ℕ) (result : Result Key Refusal) : Type 0 where

@@ -8,7 +8,7 @@ ghost use Rattle.sector_disk.specs.Calls.{HealsDisk, OnlyReads, WritesDisk, devi
 ghost use Rattle.sector_disk.specs.Machine.{Moment, LeavesOnly, wrote};
 ghost use Rattle.std.specs.FinMap.{find as file_of};
 ghost use Rattle.run_table.specs.RunTable.{total};
-ghost use Rattle.fsd_bytes.specs.Keys.{key_cmp};
+ghost use Rattle.fsd_bytes.specs.Keys.{is_key, key_cmp};
 ghost use Rattle.fsd_formats.specs.NamePage.{sectors_for};
 ghost use Rattle.fsd_log.specs.Scan.{Placed};
 ghost use Rattle.fsd_files.specs.Files.{Change};
@@ -107,9 +107,12 @@ pub trait Files<M: Machine>: Sized {
         ensures done { M.honest m.new → (k : Known) → Stands state holds self.old k (M.now m.old) →
             EndsPut state holds (λ met. put_outcome met (volume_of k) name.now bytes.now keep) bytes.now (Change.Put name.now keep bytes.now) k self.new (M.now m.new) result };
 
-    /// Makes a version with this key, this keep and these bytes; no version goes.
+    /// Makes a version with this key, this keep and these bytes, where there is none of the key. No version goes by the
+    /// keep. Versions are numbered from 1 on. On a volume that stands it answers VersionsUsedUp never: that tells pages
+    /// that break the table.
     fn load(&mut self, m: &mut M, key: &Key, keep: u32, bytes: &[u8]) -> Result<(), Refusal>
-        requires { (state self.old).layout.sectors ≤ (M.report m.old).sectors }
+        requires room { (state self.old).layout.sectors ≤ (M.report m.old).sectors }
+        requires key { IsTrue (is_key key.now) }
         ensures order { InOrder (load_steps (state self.old) keep (length bytes.now)) m.old m.new result }
         ensures disk { let may = put_writes (state self.old) (sectors_for (length bytes.now)) in
             WritesDisk M.Machine (device_in device_of result) (Leaves state holds self.old may) m.old m.new }

@@ -18,7 +18,7 @@ use Rattle.fsd_files.specs.declared.reply.Reply.{Reply}
 use Rattle.fsd_files.specs.declared.reply.Reply.TheVariants.{Forced}
 use Rattle.fsd_files.specs.Volume.{Volume}
 use Rattle.fsd_sound.specs.Mounted.{Mounted}
-use Rattle.volume_contract.specs.Ends.{AnswersAndStands, EndsForce, MakesVersion, ReadsRange}
+use Rattle.volume_contract.specs.Ends.{AnswersAndStands, EndsForce, MakesVersion, ReadsRange, made_key}
 use Rattle.volume_contract.specs.State.{State, Known, Stands, volume_of}
 use Rattle.volume_example.specs.Filling.{HasBytes, HasPut, IsUnreadCause}
 use Rattle.volume_example.specs.Forcing.{IsCommitted, IsDown}
@@ -26,7 +26,7 @@ use Rattle.volume_example.proofs.PutLaws.{IsMade, file_there, is_made, made_byte
 use Rattle.volume_example.proofs.ReadLaws.{gives_whole, is_unread}
 
 module _ {S : Type 0} (state : S → State) (has : S → Mounted → List Placed → Type 0) (name bytes : List ℕ) (k : Known) (mid : S) (at : Moment) (key : Key)
-    (made : MakesVersion state has (λ met. put_outcome met (volume_of k) name bytes None) bytes (Change.Put name None bytes) k mid at key) where
+    (made : MakesVersion state has (λ met. put_outcome met (volume_of k) name bytes None) (made_key (length bytes) key) bytes (Change.Put name None bytes) k mid at key) where
   pub is_put : IsMade name bytes None key (volume_of k) (volume_of made.after)
   is_put = is_made name bytes None key (sectors_for (length bytes)) (volume_of k) (volume_of made.after) made.answers.met made.answers.is
 

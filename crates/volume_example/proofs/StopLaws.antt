@@ -15,7 +15,7 @@ use Rattle.fsd_files.specs.Disk.{Sectors}
 use Rattle.fsd_sound.specs.Mounted.{Mounted}
 use Rattle.fsd_sound.specs.Sound.{EndIn, IsSound}
 use Rattle.fsd_sound.proofs.MoreLaws.{sound_fewer, sound_more, wear_sound}
-use Rattle.volume_contract.specs.Ends.{MakesVersion}
+use Rattle.volume_contract.specs.Ends.{MakesVersion, made_key}
 use Rattle.volume_contract.specs.State.{Known, Leaves, Stands, State, forced_of, volume_of}
 use Rattle.volume_example.specs.Stops.{LeavesOneMore, MayLeave}
 use Rattle.volume_example.specs.Syncs.{SyncsDisk, WritesAndSyncs, WritesForGood}
@@ -122,7 +122,7 @@ pub put_alone : {D S : Type 0} (M : Ghosts D) (state : S → State) (has : S →
 put_alone M state has v may change a b fault put = writes_more {P = Leaves state has v may} {R = LeavesOneMore state has v change} put (λ h left leaves k stands. put_leaves state has v k (M.now a) stands change may left leaves)
 
 module _ {D S : Type 0} (M : Ghosts D) (state : S → State) (has : S → Mounted → List Placed → Type 0) (v w : S) (may forces : Sectors) (name bytes : List ℕ) (key : Key) (a b c : D) (put : WritesDisk M None (Leaves state has v may) a b)
-    (makes : M.honest b → (k : Known) → Stands state has v k (M.now a) → MakesVersion state has (λ met. put_outcome met (volume_of k) name bytes None) bytes (Change.Put name None bytes) k w (M.now b) key) where
+    (makes : M.honest b → (k : Known) → Stands state has v k (M.now a) → MakesVersion state has (λ met. put_outcome met (volume_of k) name bytes None) (made_key (length bytes) key) bytes (Change.Put name None bytes) k w (M.now b) key) where
   pub put_forces : (fault : Option ℕ) → WritesDisk M fault (Leaves state has w forces) b c → WritesDisk M fault (LeavesOneMore state has v (Change.Put name None bytes)) a c
   put_forces fault force = writes_then {P = Leaves state has v may} {Q = Leaves state has w forces} {R = LeavesOneMore state has v (Change.Put name None bytes)} put force
       (λ h left leaves k stands. put_leaves state has v k (M.now a) stands (Change.Put name None bytes) may left leaves) force_part
