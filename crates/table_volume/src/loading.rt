@@ -58,6 +58,7 @@ impl Volume {
             keep,
             &draft,
         );
+        self.table.cache.attest();
         if !done? {
             return Err(Refusal::Exists);
         }

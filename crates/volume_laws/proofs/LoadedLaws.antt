@@ -8,6 +8,7 @@ use Rattle.fsd_bytes.specs.declared.key.Key.{Key}
 use Rattle.fsd_bytes.specs.declared.refusal.Refusal.{Refusal}
 use Rattle.fsd_bytes.specs.declared.refusal.Refusal.TheVariants as Why
 use Rattle.sector_set.specs.Area.{Area, without_sectors}
+use Rattle.shadow_frees.specs.Waits.{Waits}
 use Rattle.fsd_formats.specs.declared.entry.Entry.{Entry}
 use Rattle.fsd_formats.specs.NamePage.{sectors_for}
 use Rattle.fsd_table.specs.Reached.{ReachesPage}
@@ -52,9 +53,9 @@ load_comes M m m' v w is log key c flags home_a why none =
     asked_follows {T = Key} Why.Exists (state w) (Err why) (refuses_comes (state w) _ _ _ _ (count_by (λ spare. spare) v.free_pages) (free_told v w is) why none.fault)
 
 -- it is none that tells the version as there
-pub load_some : {D : Type 0} {P : Type 0} (M : MachineGhosts D) (m m' : D) (v : VolumeValue) (log : LogValue) (key : Key) (c : CacheValue) (flags : List Bool) (home_a : ℕ) (why : Refusal)
-    → LoadsNone M by_log.ghosts log key v.map v.shadow m m' v.cache c v.free_pages flags home_a why → why ≡ Why.Exists → P
-load_some M m m' v log key c flags home_a why none is = absurd (subst (LoadsNone M by_log.ghosts log key v.map v.shadow m m' v.cache c v.free_pages flags home_a) is none).fault
+pub load_some : {D : Type 0} (M : MachineGhosts D) (m m' : D) (log : LogValue) (key : Key) (map : Area) (w : Waits) (old c : CacheValue) (free flags : List Bool) (home_a : ℕ) (why : Refusal)
+    → LoadsNone M by_log.ghosts log key map w m m' old c free flags home_a why → why ≡ Why.Exists → ⊥
+load_some M m m' log key map w old c free flags home_a why none is = (subst (LoadsNone M by_log.ghosts log key map w m m' old c free flags home_a) is none).fault
 
 -- it is whole once the sectors are taken
 pub whole_loaded : (v : VolumeValue) → IsWholeVolume v → (c : CacheValue) (flags : List Bool) → IsWholeVolume (record v { cache = c; free_pages = flags }) → (draft : Entry) (free : Area) (versions : ℕ) → free ≡ without_sectors v.map draft.runs
