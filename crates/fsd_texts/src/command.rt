@@ -25,6 +25,12 @@ pub enum Command {
         key: Key,
         name: FileName,
     },
+    /// A version of this key, where there is none. No line of a script asks for it.
+    Load {
+        key: Key,
+        keep: u32,
+        bytes: Bytes,
+    },
     List(Pattern),
     Get(Key),
     Force,
