@@ -1,23 +1,30 @@
 -- What dumps and restores do, in words of files: a dump changes nothing, and of what a restore is given some first versions are
 -- loaded, at 0 all.
 use Rattle.std.proofs.Common.{◌≡◌, ◌⊎◌, inl, inr, ⊎_elim, ℕ, zero, suc, ◌-◌, Bool, true, false, List, [], ◌∷◌, ◌++◌, length, map, take, Option, Some, None, Ok, Err, refl, sym, ap, subst, ◌∙◌, arith}
-use Rattle.std.specs.Prelude.{IsSome, nat_lt, ◌==◌, if◌then◌else◌}
+use Rattle.std.specs.Prelude.{IsSome, T, nat_lt, ◌==◌, if◌then◌else◌}
 use Rattle.std.specs.Option.{option_or}
-use Rattle.std.specs.List.{AllByRecursion, flat_map, fold}
+use Rattle.std.specs.List.{AllByRecursion, concat, flat_map, fold}
+use Rattle.std.specs.FinMap.{find, is_sorted}
 use Rattle.std.proofs.lemmas.List.{append-nil, length-map, take_all, take-map}
 use Rattle.std.proofs.Math.Seq.{take-nil}
 use Rattle.fsd_bytes.specs.declared.key.Key.{Key}
 use Rattle.fsd_bytes.specs.declared.key.Serial.{Serial}
 use Rattle.fsd_bytes.specs.declared.refusal.Refusal.{Refusal}
 use Rattle.run_table.specs.declared.run.Run.{Run}
-use Rattle.fsd_dumps.specs.Dump.{Dumped}
+use Rattle.fsd_bytes.specs.Keys.{key_cmp}
+use Rattle.fsd_dumps.proofs.Again.{dump_again}
+use Rattle.fsd_dumps.proofs.Parts.{parts_are}
+use Rattle.fsd_dumps.specs.Dump.{Dumped, dump_bytes}
 use Rattle.fsd_dumps.specs.Front.{ItemsRead, dumped_in}
+use Rattle.fsd_formats.specs.declared.entry.Entry.{Entry}
 use Rattle.fsd_formats.specs.NamePage.{sectors_for}
 use Rattle.fsd_files.proofs.EachLaws.{each_taken}
 use Rattle.fsd_files.specs.Answers.{Met, load_at, load_fault, load_unless, loaded_unless, no_place, size_fault}
 use Rattle.fsd_files.specs.Desk.{Session}
 use Rattle.fsd_files.specs.Disk.{Image}
-use Rattle.fsd_files.specs.Files.{Change, Files, step}
+use Rattle.fsd_files.specs.Files.{Change, File, Files, loads_of, step}
+use Rattle.fsd_files.specs.Kept.{Lists}
+use Rattle.fsd_files.proofs.LoadLaws.{found_there, loaded_again}
 use Rattle.fsd_files.specs.declared.reply.Reply.{Reply}
 use Rattle.fsd_files.specs.declared.reply.Reply.TheVariants as Said
 use Rattle.fsd_files.specs.Volume.{Volume, drawn, forced_for_place, forced_if, place_for}
@@ -29,11 +36,11 @@ use Rattle.fsd_texts.specs.declared.script_command.ScriptCommand.{ScriptCommand}
 use Rattle.fsd_texts.specs.Script.{max_input}
 use Rattle.fsd_runs.specs.declared.request.Request.TheVariants as Asks
 use Rattle.fsd_runs.specs.Commands.{answer, changes_of}
-use Rattle.fsd_runs.specs.Dumps.{dump_of, first_there}
+use Rattle.fsd_runs.specs.Dumps.{bytes_found, chosen, dump_of, dumped_of, first_there, latest_of}
 use Rattle.fsd_runs.specs.Errands.{Answered, ByFault, ByRefusal, BySector, Cut, Damages, Errand, MayCut, Turn, blank, cut_off, damage_turn, fault_status, first_refusal, load_of, nothing_but, refusal_of, restore_of, restored_unless, restoring, restoring_none, restoring_unless, said_turn}
-use Rattle.fsd_runs.specs.Runs.{IsRestoredSo, RefusesLast, answered, changes_in, errand_in, turn_of, turns_of, turns_with}
+use Rattle.fsd_runs.specs.Runs.{IsRestoredSo, RefusesLast, answered, changes_in, errand_in, said_in, turn_of, turns_of, turns_with}
 use Rattle.fsd_runs.specs.Sessions.{Meeting, answer_in, session_over}
-use Rattle.fsd_history.specs.History.{Ends, LoadsAll, LoadsSome, Plays, Stops, load_change, loads_read, turns_in}
+use Rattle.fsd_history.specs.History.{Ends, IsFull, LoadsAll, LoadsSome, Plays, Stops, load_change, loads_read, turns_in}
 
 -- ---- turns
 
@@ -406,3 +413,49 @@ restore_stops Shown input said s next (inr x) =
     let first = restored_first Shown input s x.plays (suc x.whole) in
     let twice = taken_twice x.found first.0 (loads_read (dumped_in input)) in
     (twice.0, x.files ∙ ap (fold step s) (ap (take x.found) first.1 ∙ twice.1))
+
+-- ---- a restore of a full dump
+
+said_parts : (parts : List (List ℕ)) → said_in (map said_turn parts) ≡ concat parts
+said_parts [] = refl
+said_parts (part ∷ parts) = ap (λ (bytes : List ℕ). part ++ bytes) (said_parts parts)
+
+-- a dump that ends with 0 has said all of it
+dump_said : (since : Serial) (v : Volume) (cut : Cut) → MayCut (Asks.Dump since) cut → (mets : List Meeting) → 0 ≡ ((dump_in since v cut).ends (answered mets (session_over v) (dump_in since v cut).commands)).status
+    → said_in (turns_of (dump_in since v cut) mets (session_over v)) ≡ concat (dump_of since v)
+dump_said since v None may mets nought = ap (λ (done : List Answered). said_in (turns_with (dump_in since v None) done)) (none_answered since v None may mets) ∙ said_parts (dump_of since v)
+dump_said since v (Some (Damages found)) may mets nought = absurd (omega (arith, nought))
+dump_said since v (Some (BySector k t)) may mets nought = absurd (omega (arith, nought))
+dump_said since v (Some (ByFault k why)) may mets nought = absurd may
+dump_said since v (Some (ByRefusal k)) may mets nought = absurd may
+
+-- the loads of all versions are those that make the files
+loads_are : (files s : Files) (entries : List Entry) → AllByRecursion (λ y. find key_cmp y.0 files ≡ Some y.1) s → Lists s entries → map load_change (map (dumped_of files) entries) ≡ loads_of s
+loads_are files [] [] found lists = refl
+loads_are files [] (e ∷ entries) found lists = absurd lists
+loads_are files (y ∷ s) [] found lists = absurd lists
+loads_are files (y ∷ s) (e ∷ entries) found lists =
+    let is = lists.0 in
+    ap (λ (c : Change). c ∷ map load_change (map (dumped_of files) entries)) ((λ i. Change.Load (is.key i) (is.keep i) (bytes_found (find key_cmp (is.key i) files))) ∙ ap (λ (o : Option File). Change.Load y.0 y.1.keep (bytes_found o)) found.0)
+    ∙ ap (λ (cs : List Change). Change.Load y.0 y.1.keep y.1.bytes ∷ cs) (loads_are files s entries found.1 lists.1)
+
+one_list : (xs ys : List Dumped) → ◌≡◌ {A = ItemsRead} (Ok xs) (Ok ys) → xs ≡ ys
+one_list xs ys e = cc
+
+pub full_restored : (Shown Other : Image → Type 0) (since : Serial) (said more : List ℕ) (s between next : Files) → T (is_sorted key_cmp s) → (x : Ends Shown (Asks.Dump since) [] s said 0 between) → IsFull since x.plays.volume
+    → Ends Other Asks.Restore said [] more 0 next → next ≡ s
+full_restored Shown Other since said more s between next sorted x full y =
+    let p = x.plays in
+    let v = p.volume in
+    let latest = latest_of v.entries in
+    let items = map (dumped_of v.files) v.entries in
+    let loaded = (restore_ends Other said more [] next 0 y).0 refl in
+    let text : said ≡ dump_bytes latest items = x.says ∙ dump_said since v p.cut p.may p.mets x.ends ∙ parts_are latest (map (dumped_of v.files) (chosen since v.entries)) ∙ ap (λ (es : List Entry). dump_bytes latest (map (dumped_of v.files) es)) full.all in
+    let same : loaded.0 ≡ items = one_list loaded.0 items (sym loaded.1 ∙ ap dumped_in text ∙ dump_again latest items full.bounded) in
+    let in_order : T (is_sorted key_cmp v.files) = subst (λ (f : Files). T (is_sorted key_cmp f)) (sym p.fresh.files) sorted in
+    let lists : Lists v.files v.entries = subst (λ (f : Files). Lists f v.entries) (sym p.fresh.files) p.fresh.described.lists in
+    loaded.2
+    ∙ ap (λ (xs : List Dumped). fold step [] (map load_change xs)) same
+    ∙ ap (fold step []) (loads_are v.files v.files v.entries (found_there v.files in_order) lists)
+    ∙ loaded_again v.files in_order
+    ∙ p.fresh.files
