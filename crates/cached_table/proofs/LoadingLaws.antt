@@ -1,5 +1,5 @@
 -- A version that is loaded over pages: what its entry needs and makes, and why none is.
-use Rattle.std.proofs.Common.{◌≡◌, ℕ, Bool, List, [], map, None, ap, ◌∙◌, sym, subst}
+use Rattle.std.proofs.Common.{◌≡◌, ℕ, Bool, true, false, List, [], map, None, ap, ◌∙◌, sym, subst}
 use Rattle.std.specs.Prelude.{Result, Ok, Err, IfErr, OnErr, count_by}
 use Rattle.fsd_bytes.specs.declared.key.Key.{Key}
 use Rattle.fsd_bytes.specs.declared.refusal.Refusal.{Refusal}
@@ -69,6 +69,10 @@ refused_load P law map w key home_a old now new r walks absent refuses = record 
 }
 
 -- ---- what is told, of a result
+
+-- one that did not come is not told as come
+pub false_told : {F : Type 0} → ◌≡◌ {A = Result Bool F} (Ok false) (Ok true) → ⊥
+false_told is = cc is
 
 module _ {D T : Type 0} (P : Ghosts D) (key : Key) (map : Area) (w : Waits) (home_a : ℕ) (old new : D) where
   pub refusal_walks : (r : Result T Refusal) → IfErr r (RefusesLoad P key map w home_a old new) → OnErr r (OnlyWalks P (outer_in r) old new)

@@ -1,5 +1,5 @@
 -- Dumps: versions of files, with their bytes, as one text.
-use Rattle.std.specs.Prelude.{◌≡◌, ℕ, Bool, true, ◌&&◌, List, [], ◌∷◌, ◌++◌, length, take, Option, Some, None, ◌≤◌, nat_le, ◌==◌, codes}
+use Rattle.std.specs.Prelude.{◌≡◌, ℕ, Bool, true, ◌&&◌, List, [], ◌∷◌, ◌++◌, length, map, take, Option, Some, None, ◌≤◌, nat_le, ◌==◌, codes}
 use Rattle.std.specs.List.{flat_map}
 use Rattle.fsd_bytes.specs.Bytes.{u8, u16, u32}
 use Rattle.fsd_bytes.specs.declared.key.Key.{Key}
@@ -35,6 +35,10 @@ end_bytes count = codes "CFSE" ++ u32 count
 -- the greatest serial of all versions of the volume, and some of its versions
 abbrev pub dump_bytes : Serial → List Dumped → List ℕ
 dump_bytes latest items = head_bytes (length items) latest ++ (flat_map item_bytes items ++ end_bytes (length items))
+
+-- its parts as they are said one after another: the head, each version, and the end
+abbrev pub dump_parts : Serial → List Dumped → List (List ℕ)
+dump_parts latest items = head_bytes (length items) latest ∷ (map item_bytes items ++ end_bytes (length items) ∷ [])
 
 -- ---- what may stand in a dump
 

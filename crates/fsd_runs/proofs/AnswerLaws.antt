@@ -15,7 +15,7 @@ use Rattle.fsd_formats.specs.NamePage.{sectors_for, max_keep}
 use Rattle.sector_disk.specs.declared.sector.Sector.{Sector}
 use Rattle.sector_disk.specs.declared.sector.Sector.TheVariants.{Whole, Damaged}
 use Rattle.sector_disk.specs.Image.{sector_at}
-use Rattle.fsd_files.specs.Answers.{Met, Outcome, refused, enter_fault, entered_unless, entered_version, put_at, put_unless, size_fault, keep_given, deleted, keep_set, moved, moved_unless, entry_of, highest_entry, upgraded, got, FindsDamage, FindsDamageIn}
+use Rattle.fsd_files.specs.Answers.{Met, Outcome, refused, enter_fault, entered_unless, entered_version, put_at, put_unless, size_fault, keep_given, load_at, load_fault, load_unless, loaded_unless, deleted, keep_set, moved, moved_unless, entry_of, highest_entry, upgraded, got, FindsDamage, FindsDamageIn}
 use Rattle.fsd_files.specs.Disk.{Image}
 use Rattle.fsd_files.specs.Files.{Change, File, Files, step}
 use Rattle.fsd_files.specs.Kept.{range_sectors}
@@ -94,6 +94,26 @@ put_does met v name bytes given None =
     let at = forced_for_place need v in
     does_from met v at (Word.Put name bytes given) (put_unless None met v name bytes given) (same_forced (is_none (place_for v need) && not (length v.removed == 0)) v) (put_placed met at name bytes given need (place_for at need))
 
+load_enters : (met : Met) (v : Volume) (key : Key) (keep : ℕ) (bytes : List ℕ) (runs : List Run) (serial : Serial) (o : Option Refusal)
+    → Does met v (Word.Load key keep bytes) (loaded_unless o v key keep bytes runs serial met.reached)
+load_enters met v key keep bytes runs serial (Some why) = inl (record { none = refl; same = same_itself v })
+load_enters met v key keep bytes runs serial None = inr (record { change = Change.Load key keep bytes; is = refl; files = refl; reached = refl; held = refl; unforced = omega arith })
+
+load_placed : (met : Met) (v : Volume) (key : Key) (keep : ℕ) (bytes : List ℕ) (need : ℕ) (o : Option (List Run)) → Does met v (Word.Load key keep bytes) (load_at met v key keep bytes need o)
+load_placed met v key keep bytes need None = inl (record { none = refl; same = same_itself v })
+load_placed met v key keep bytes need (Some runs) =
+    let at = forced_if met.forces (drawn v) in
+    let before : IsSame v (drawn v) = record { files = refl; reached = refl; held = refl; unforced = omega arith } in
+    does_from met v at (Word.Load key keep bytes) (load_at met v key keep bytes need (Some runs)) (same_then v (drawn v) at before (same_forced (met.forces && nat_le 2 v.unforced) (drawn v)))
+    (load_enters met at key keep bytes runs v.serial (load_fault at key))
+
+load_does : (met : Met) (v : Volume) (key : Key) (keep : ℕ) (bytes : List ℕ) (o : Option Refusal) → Does met v (Word.Load key keep bytes) (load_unless o met v key keep bytes)
+load_does met v key keep bytes (Some why) = inl (record { none = refl; same = same_itself v })
+load_does met v key keep bytes None =
+    let need = sectors_for (length bytes) in
+    let at = forced_for_place need v in
+    does_from met v at (Word.Load key keep bytes) (load_unless None met v key keep bytes) (same_forced (is_none (place_for v need) && not (length v.removed == 0)) v) (load_placed met at key keep bytes need (place_for at need))
+
 delete_does : (met : Met) (v : Volume) (key : Key) (o : Option Entry) → Does met v (Word.Delete key) (deleted v key met.reached o)
 delete_does met v key None = inl (record { none = refl; same = same_itself v })
 delete_does met v key (Some e) = inr (record { change = Change.Delete key; is = refl; files = refl; reached = refl; held = refl; unforced = omega arith })
@@ -125,6 +145,7 @@ upgrade_same Three v = same_itself v
 
 pub does : (met : Met) (v : Volume) (command : Command) → Does met v command (answer met v command)
 does met v (Word.Put name bytes given) = put_does met v name bytes given (size_fault (keep_given given) (length bytes))
+does met v (Word.Load key keep bytes) = load_does met v key keep bytes (size_fault keep (length bytes))
 does met v (Word.Delete key) =
     let at = forced_if met.forces v in
     does_from met v at (Word.Delete key) (answer met v (Word.Delete key)) (same_forced (met.forces && nat_le 2 v.unforced) v) (delete_does met at key (entry_of key at.entries))
@@ -186,6 +207,19 @@ forces_all met v (Word.Put name bytes given) e = absurd (by (size_fault (keep_gi
     at_place w need (Some runs) e = at_end (forced_if met.forces (drawn w)) runs w.serial (enter_fault (forced_if met.forces (drawn w)) name) e
 
     by : (o : Option Refusal) → is_forced (put_unless o met v name bytes given).0 ≡ true → ⊥
+    by (Some why) e = cc
+    by None e = at_place (forced_for_place (sectors_for (length bytes)) v) (sectors_for (length bytes)) (place_for (forced_for_place (sectors_for (length bytes)) v) (sectors_for (length bytes))) e
+forces_all met v (Word.Load key keep bytes) e = absurd (by (size_fault keep (length bytes)) e)
+  where
+    at_end : (w : Volume) (runs : List Run) (serial : Serial) (o : Option Refusal) → is_forced (loaded_unless o w key keep bytes runs serial met.reached).0 ≡ true → ⊥
+    at_end w runs serial None e = cc
+    at_end w runs serial (Some why) e = cc
+
+    at_place : (w : Volume) (need : ℕ) (o : Option (List Run)) → is_forced (load_at met w key keep bytes need o).0 ≡ true → ⊥
+    at_place w need None e = cc
+    at_place w need (Some runs) e = at_end (forced_if met.forces (drawn w)) runs w.serial (load_fault (forced_if met.forces (drawn w)) key) e
+
+    by : (o : Option Refusal) → is_forced (load_unless o met v key keep bytes).0 ≡ true → ⊥
     by (Some why) e = cc
     by None e = at_place (forced_for_place (sectors_for (length bytes)) v) (sectors_for (length bytes)) (place_for (forced_for_place (sectors_for (length bytes)) v) (sectors_for (length bytes))) e
 forces_all met v command e = absurd cc

@@ -195,6 +195,7 @@ put_and_get = record {
   before = tt;
   mets = meets plain ∷ meets plain ∷ [];
   goes = subst (λ (s : Spelled). Goes (in_runs window) at_any (IsCutAt None) (scripted s) [] mounted (session_over default) (meets plain ∷ meets plain ∷ []) (scripted s).commands) (sym input_is) two_steps;
+  so = tt;
 }
 
 -- ---- runs that can't

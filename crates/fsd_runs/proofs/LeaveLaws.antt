@@ -94,4 +94,5 @@ broken_by_memory request Undone UnderWay before after turns old new result none 
     by r (Ends.Device s) outside ends says undone = absurd (none.disk outside.rose)
     by r Ends.Memory outside ends says undone = (ends, says, undone refl)
     by (Asks.Put name keep) Ends.Input outside ends says undone = absurd (none.input outside)
+    by Asks.Restore Ends.Input outside ends says undone = absurd (none.input outside)
     by r why outside ends says undone = absurd outside

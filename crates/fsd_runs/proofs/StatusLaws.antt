@@ -36,6 +36,7 @@ each_of_reply (Word.Put name bytes keep) = (inl (omega arith), (inl (omega arith
 each_of_reply (Word.Delete key) = (inl (omega arith), (inl (omega arith), tt))
 each_of_reply (Word.Keep name keep) = (inl (omega arith), (inl (omega arith), tt))
 each_of_reply (Word.Move key name) = (inl (omega arith), (inl (omega arith), tt))
+each_of_reply (Word.Load key keep bytes) = (inl (omega arith), (inl (omega arith), tt))
 each_of_reply (Word.Get key) = (inl (omega arith), (inl (omega arith), (inr refl, tt)))
 each_of_reply Word.Scrub = (inl (omega arith), (inr refl, tt))
 each_of_reply Word.Upgrade = (inl (omega arith), (inl (omega arith), tt))

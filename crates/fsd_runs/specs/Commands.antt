@@ -5,7 +5,7 @@ use Rattle.std.specs.List.{flat_map, list_any}
 use Rattle.fsd_bytes.specs.declared.key.Key.{Key}
 use Rattle.fsd_bytes.specs.Keys.{key_text}
 use Rattle.fsd_formats.specs.NamePage.{max_keep, sectors_for}
-use Rattle.fsd_files.specs.Answers.{Met, Outcome, put_outcome, delete_outcome, keep_outcome, move_outcome, force_outcome, scrub_outcome, upgrade_outcome, stat_reply, list_reply, get_reply, keep_given, size_fault, FindsDamageIn}
+use Rattle.fsd_files.specs.Answers.{Met, Outcome, put_outcome, delete_outcome, keep_outcome, move_outcome, load_outcome, force_outcome, scrub_outcome, upgrade_outcome, stat_reply, list_reply, get_reply, keep_given, size_fault, FindsDamageIn}
 use Rattle.fsd_files.specs.Disk.{Image}
 use Rattle.fsd_files.specs.Files.{Change}
 use Rattle.fsd_files.specs.declared.reply.Reply.{Reply}
@@ -25,6 +25,7 @@ answer met v (Word.Put name bytes keep) = put_outcome met v name bytes keep
 answer met v (Word.Delete key) = delete_outcome met v key
 answer met v (Word.Keep name keep) = keep_outcome met v name keep
 answer met v (Word.Move key name) = move_outcome met v key name
+answer met v (Word.Load key keep bytes) = load_outcome met v key keep bytes
 answer met v (Word.List pattern) = (list_reply v pattern, v)
 answer met v (Word.Get key) = (get_reply met v key, v)
 answer met v Word.Force = force_outcome v
@@ -39,6 +40,7 @@ may_wear_out (Word.Put name bytes keep) = is_none (size_fault (keep_given keep) 
 may_wear_out (Word.Delete key) = true
 may_wear_out (Word.Keep name keep) = not (nat_lt max_keep keep)
 may_wear_out (Word.Move key name) = true
+may_wear_out (Word.Load key keep bytes) = is_none (size_fault keep (length bytes))
 may_wear_out (Word.List pattern) = false
 may_wear_out (Word.Get key) = false
 may_wear_out Word.Force = false
@@ -53,6 +55,7 @@ MayFind i j v (Word.Put name bytes keep) met = ⊤
 MayFind i j v (Word.Delete key) met = ⊤
 MayFind i j v (Word.Keep name keep) met = ⊤
 MayFind i j v (Word.Move key name) met = ⊤
+MayFind i j v (Word.Load key keep bytes) met = ⊤
 MayFind i j v (Word.List pattern) met = ⊤
 MayFind i j v (Word.Get key) met = FindsDamageIn i j v key met.damaged
 MayFind i j v Word.Force met = ⊤
@@ -71,6 +74,8 @@ changes_of (Word.Keep name keep) (Kept key k) = Change.SetKeep name keep ∷ []
 changes_of (Word.Keep name keep) reply = []
 changes_of (Word.Move key name) (Moved k to) = Change.Move key name ∷ []
 changes_of (Word.Move key name) reply = []
+changes_of (Word.Load key keep bytes) (Loaded k) = Change.Load key keep bytes ∷ []
+changes_of (Word.Load key keep bytes) reply = []
 changes_of (Word.List pattern) reply = []
 changes_of (Word.Get key) reply = []
 changes_of Word.Force reply = []
@@ -91,7 +96,7 @@ listed_text count = line (codes "listed" ∷ number count ∷ [])
 
 -- a damaged sector of a version
 abbrev pub damaged_text : Key → ℕ → List ℕ
-damaged_text key s = line (codes "damaged" ∷ key_text key ∷ number s ∷ [])
+damaged_text key s = text (Says.Damaged key s)
 
 -- the damaged sectors that a scrub has found
 abbrev pub found_text : List (Key × ℕ) → List ℕ
@@ -118,8 +123,8 @@ reply_text (Dropped client) = line (codes "dropped" ∷ number client ∷ [])
 reply_text (Opened client len) = line (codes "opened" ∷ number client ∷ number len ∷ [])
 reply_text (Given client bytes) = line (codes "next" ∷ number client ∷ number (length bytes) ∷ []) ++ bytes ++ newline
 reply_text (Done client) = line (codes "done" ∷ number client ∷ [])
--- of a load nothing is said, and no command of a script is answered so
-reply_text (Loaded key) = []
+reply_text (Loaded key) = line (codes "loaded" ∷ key_text key ∷ [])
+-- no command of a script is answered so
 reply_text (Found entry) = []
 
 -- what a command by itself says: a get the bytes alone
@@ -144,6 +149,7 @@ reply_statuses (Word.Put name bytes keep) = 0 ∷ 1 ∷ []
 reply_statuses (Word.Delete key) = 0 ∷ 1 ∷ []
 reply_statuses (Word.Keep name keep) = 0 ∷ 1 ∷ []
 reply_statuses (Word.Move key name) = 0 ∷ 1 ∷ []
+reply_statuses (Word.Load key keep bytes) = 0 ∷ 1 ∷ []
 reply_statuses (Word.List pattern) = 0 ∷ []
 reply_statuses (Word.Get key) = 0 ∷ 1 ∷ 8 ∷ []
 reply_statuses Word.Force = 0 ∷ []

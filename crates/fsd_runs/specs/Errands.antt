@@ -1,7 +1,14 @@
 -- What a run does over the volume that it has mounted, by what the words ask for.
-use Rattle.std.specs.Prelude.{ℕ, Bool, true, false, List, [], ◌∷◌, length, map, take, Option, Some, None, sum_by, nat_lt, if◌then◌else◌}
+use Rattle.std.specs.Option.{option_or}
+use Rattle.std.specs.Prelude.{ℕ, suc, Bool, true, false, List, [], ◌∷◌, length, map, take, Option, Some, None, Ok, Err, sum_by, nat_lt, if◌then◌else◌}
 use Rattle.fsd_files.specs.Desk.{Session}
+use Rattle.fsd_bytes.specs.declared.key.Key.{Key}
+use Rattle.fsd_bytes.specs.declared.key.Serial.{Serial}
+use Rattle.fsd_bytes.specs.declared.refusal.Refusal.{Refusal}
+use Rattle.fsd_dumps.specs.Dump.{Dumped}
+use Rattle.fsd_dumps.specs.Front.{ItemsRead, dumped_in}
 use Rattle.fsd_files.specs.Files.{Change}
+use Rattle.fsd_files.specs.Volume.{Volume}
 use Rattle.fsd_files.specs.declared.reply.Reply.{Reply}
 use Rattle.fsd_files.specs.declared.reply.Reply.TheVariants.{Refused, Made, Deleted, Kept, Bytes, DamagedAt, Forced}
 use Rattle.fsd_texts.specs.declared.command.Command.{Command}
@@ -19,8 +26,9 @@ use Rattle.fsd_texts.specs.Script.{max_input, script_in}
 use Rattle.fsd_texts.specs.Script.{Script as Spelled}
 use Rattle.fsd_texts.specs.Generator.{made_up}
 use Rattle.fsd_runs.specs.declared.request.Request.{Request}
-use Rattle.fsd_runs.specs.declared.request.Request.TheVariants.{Put, One, Script, Generate}
+use Rattle.fsd_runs.specs.declared.request.Request.TheVariants.{Put, One, Script, Generate, Dump, Restore}
 use Rattle.fsd_runs.specs.Commands.{reply_text, reply_alone, reply_status}
+use Rattle.fsd_runs.specs.Dumps.{dump_of, first_there}
 use Rattle.fsd_runs.specs.Sessions.{changes_in_session}
 
 -- a command, its reply, and the changes that were accepted with it
@@ -53,8 +61,11 @@ pub record Errand : Type 0 where
 
 -- ---- how runs end
 
+abbrev pub said_turn : List ℕ → Turn
+said_turn bytes = record { said = bytes; changes = []; forces = false }
+
 abbrev pub line_turn : Line → Turn
-line_turn line = record { said = text line; changes = []; forces = false }
+line_turn line = said_turn (text line)
 
 -- nothing said and nothing done: it stands behind the turns of a run that was broken off
 abbrev pub blank : Turn
@@ -177,19 +188,67 @@ generated seed count = record {
   ends = λ done. group_ending (line_turn (generated_line done) ∷ []) 0;
 }
 
+-- ---- dumps
+
+-- the parts of the dump are said one after another
+abbrev pub dumping : Serial → Volume → Errand
+dumping since v = record { commands = []; says = λ reply. []; forces = λ reply. false; ends = λ done. record { turns = map said_turn (dump_of since v); status = 0 } }
+
+-- ---- restores
+
+-- a line that is said once all is forced
+abbrev pub forced_line : Line → ℕ → Ending
+forced_line line status = record { turns = record { said = text line; changes = []; forces = true } ∷ []; status = status }
+
+-- nothing is made again, and the line says why
+abbrev pub restoring_none : Line → Errand
+restoring_none line = record { commands = []; says = λ reply. []; forces = λ reply. false; ends = λ done. forced_line line 1 }
+
+abbrev pub load_of : Dumped → ScriptCommand
+load_of x = Plain (Word.Load x.key x.keep x.bytes)
+
+abbrev pub refusal_of : Reply → Option Refusal
+refusal_of (Refused why) = Some why
+refusal_of other = None
+
+-- the first refusal, if one came
+abbrev pub first_refusal : List Answered → Option Refusal
+first_refusal [] = None
+first_refusal (p ∷ done) = option_or (refusal_of p.reply) (first_refusal done)
+
+abbrev pub restored_unless : Option Refusal → (count : ℕ) → Ending
+restored_unless (Some why) count = forced_line (Says.Refused why) 1
+restored_unless None count = forced_line (Says.Restored count) 0
+
+-- each version is loaded, and nothing is said of it
+abbrev pub restoring : List Dumped → Errand
+restoring items = record { commands = map load_of items; says = λ reply. []; forces = λ reply. false; ends = λ done. restored_unless (first_refusal done) (length done) }
+
+-- where none is there already
+abbrev pub restoring_unless : Option Key → List Dumped → Errand
+restoring_unless (Some key) items = restoring_none (Says.Exists key)
+restoring_unless None items = restoring items
+
+abbrev pub restore_of : ItemsRead → Volume → Errand
+restore_of (Err place) v = restoring_none (Says.NoDump place)
+restore_of (Ok items) v = restoring_unless (first_there items v.entries) items
+
 -- ---- by what the words ask for
 
--- the whole input is put, if it isn't too long
-abbrev pub put_errand : (input : List ℕ) → Command → Errand
-put_errand input command = if nat_lt max_input (length input) then nothing_but Ends.InputTooLong else errand_alone command
+-- where the input isn't too long
+abbrev pub of_input : (input : List ℕ) → Errand → Errand
+of_input input errand = if nat_lt max_input (length input) then nothing_but Ends.InputTooLong else errand
 
--- of a request that mounts; the others have nothing to do over a volume
-abbrev pub errand_of : Request → (input : List ℕ) → Errand
-errand_of (Put name keep) input = put_errand input (Word.Put name input keep)
-errand_of (One command) input = errand_alone command
-errand_of Script input = scripted (script_in input)
-errand_of (Generate seed count) input = generated seed count
-errand_of request input = nothing_but Ends.NotVolume
+-- Of a request that mounts, over the volume that the mount gives; the others have nothing to do over a volume. The whole
+-- input is put, or is the dump.
+abbrev pub errand_of : Request → (input : List ℕ) → Volume → Errand
+errand_of (Put name keep) input v = of_input input (errand_alone (Word.Put name input keep))
+errand_of (One command) input v = errand_alone command
+errand_of Script input v = scripted (script_in input)
+errand_of (Generate seed count) input v = generated seed count
+errand_of (Dump since) input v = dumping since v
+errand_of Restore input v = of_input input (restore_of (dumped_in input) v)
+errand_of request input v = nothing_but Ends.NotVolume
 
 -- the requests that mount the image
 abbrev pub IfMounts : Request → Type 0 → Type 0
@@ -197,20 +256,49 @@ IfMounts (Put name keep) P = P
 IfMounts (One command) P = P
 IfMounts Script P = P
 IfMounts (Generate seed count) P = P
+IfMounts (Dump since) P = P
+IfMounts Restore P = P
 IfMounts request P = Unit {0}
 
--- Some faults end a group behind some of its commands: what was done is forced, and then the fault is said. A script's
--- input may fail, and this mount may be worn out. So many commands, and the fault.
+-- ---- how a run is cut off
+
+-- How a run goes otherwise.
+pub data Cutting : Type 0 where
+  -- A fault ends a group behind so many commands: what was done is forced, and then the fault is said. A script's input
+  -- may fail, and the mount may be worn out.
+  ByFault : (count : ℕ) → Fault → Cutting
+  -- A restore ends behind so many loads, the last of which is refused.
+  ByRefusal : (count : ℕ) → Cutting
+  -- A dump tells these data sectors as damaged, and has none of the versions.
+  Damages : List (Key × ℕ) → Cutting
+  -- A dump ends behind so many versions, for a data sector of the next.
+  BySector : (count sector : ℕ) → Cutting
+
+-- if it does
 abbrev pub Cut : Type 0
-Cut = Option (ℕ × Fault)
+Cut = Option Cutting
 
 abbrev pub MayCut : Request → Cut → Type 0
 MayCut request None = Unit {0}
-MayCut Script (Some (k, Ends.Input)) = Unit {0}
-MayCut Script (Some (k, Ends.WornOut)) = Unit {0}
-MayCut (Generate seed count) (Some (k, Ends.WornOut)) = Unit {0}
+MayCut Script (Some (ByFault k Ends.Input)) = Unit {0}
+MayCut Script (Some (ByFault k Ends.WornOut)) = Unit {0}
+MayCut (Generate seed count) (Some (ByFault k Ends.WornOut)) = Unit {0}
+MayCut Restore (Some (ByFault k Ends.WornOut)) = Unit {0}
+MayCut Restore (Some (ByRefusal k)) = Unit {0}
+MayCut (Dump since) (Some (Damages found)) = Unit {0}
+MayCut (Dump since) (Some (BySector k s)) = Unit {0}
 MayCut request cut = ⊥
+
+-- the head, and so many versions
+abbrev pub first_turns : ℕ → Ending → Ending
+first_turns k e = record { turns = take (suc k) e.turns; status = 8 }
+
+abbrev pub damage_turn : Key × ℕ → Turn
+damage_turn x = line_turn (Says.Damaged x.0 x.1)
 
 abbrev pub cut_off : Cut → Errand → Errand
 cut_off None e = e
-cut_off (Some (k, why)) e = record e { commands = take k e.commands; ends = λ done. cut_ending why }
+cut_off (Some (ByFault k why)) e = record e { commands = take k e.commands; ends = λ done. cut_ending why }
+cut_off (Some (ByRefusal k)) e = record e { commands = take k e.commands }
+cut_off (Some (Damages found)) e = record e { ends = λ done. record { turns = map damage_turn found; status = 8 } }
+cut_off (Some (BySector k s)) e = record e { ends = λ done. first_turns k (e.ends done) }

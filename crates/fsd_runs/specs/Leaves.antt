@@ -24,8 +24,8 @@ use Rattle.fsd_texts.specs.declared.fault.Fault.TheVariants as Ends
 use Rattle.fsd_texts.specs.Script.{script_of}
 use Rattle.fsd_texts.specs.Text.{fault_text}
 use Rattle.fsd_runs.specs.declared.request.Request.{Request}
-use Rattle.fsd_runs.specs.declared.request.Request.TheVariants.{One, Put}
-use Rattle.fsd_runs.specs.Errands.{Cut, Turn, blank, fault_status}
+use Rattle.fsd_runs.specs.declared.request.Request.TheVariants.{One, Put, Restore}
+use Rattle.fsd_runs.specs.Errands.{ByFault, Cut, Turn, blank, fault_status}
 use Rattle.fsd_runs.specs.Runs.{IsThrough, Course, Starts, StoodAt, changes_in, forced_in, run_end, run_status, run_turns, said_in}
 
 -- ---- what is said
@@ -113,11 +113,12 @@ pub record SaysThen (turns : List Turn) (bytes : List ℕ) (old new : Moment) : 
   pub said : new.said ≡ old.said ++ (said_in (take whole turns) ++ bytes)
 
 -- a fault that comes from outside: it is counted, and the disk's place told; or memory was refused.
--- Of a put it may be the input's.
+-- Of a put and a restore it may be the input's.
 abbrev pub IsOutside : Request → (before after : Report) → Fault → Type 0
 IsOutside request before after (Ends.Device s) = DeviceFault before after s
 IsOutside request before after Ends.Memory = ⊤
 IsOutside (Put name keep) before after Ends.Input = Rose before.input_faults after.input_faults
+IsOutside Restore before after Ends.Input = Rose before.input_faults after.input_faults
 IsOutside request before after other = ⊥
 
 -- The turns that are said whole are all that was done: the image is sound for the changes that were found and theirs
@@ -166,7 +167,7 @@ pub record IsCutShort (k : ℕ) (input rest : List ℕ) (before after : Report) 
   pub commands : length (script_of taken).0 ≡ k
 
 abbrev pub CutCause : Cut → (input rest : List ℕ) → (before after : Report) → Type 0
-CutCause (Some (k, Ends.Input)) input rest before after = IsCutShort k input rest before after
+CutCause (Some (ByFault k Ends.Input)) input rest before after = IsCutShort k input rest before after
 CutCause cut input rest before after = ⊤
 
 -- no fault was counted

@@ -1,4 +1,5 @@
 pub mod Commands
+pub mod Dumps
 pub mod Errands
 pub mod Leaves
 pub mod Runs

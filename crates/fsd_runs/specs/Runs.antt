@@ -1,6 +1,6 @@
 -- Runs over a mounted volume: what is said, what is changed, and how much of it is forced.
-use Rattle.std.specs.Prelude.{◌≡◌, ◌⊎◌, ◌≤◌, ℕ, ◌+◌, ◌-◌, ◌^◌, List, [], ◌∷◌, ◌++◌, length, map, slice_get, Option, Some, None, IfSome, IsTrue, ⊤, ◌==◌, if◌then◌else◌}
-use Rattle.std.specs.List.{list_any, flat_map}
+use Rattle.std.specs.Prelude.{◌≡◌, ◌⊎◌, ◌≤◌, ℕ, ◌+◌, ◌-◌, ◌^◌, List, [], ◌∷◌, ◌++◌, length, map, suc, take, slice_get, Option, Some, None, IfSome, IsSome, IsTrue, IsFalse, ⊤, ◌==◌, if◌then◌else◌}
+use Rattle.std.specs.List.{concat, list_any, flat_map}
 use Rattle.volume_layout.specs.declared.layout.Layout.{Layout}
 use Rattle.sector_disk.specs.declared.sector.WeakRun.{WeakRun}
 use Rattle.sector_disk.specs.Machine.{Moment}
@@ -9,6 +9,7 @@ use Rattle.fsd_files.specs.Desk.{Session}
 use Rattle.fsd_files.specs.Disk.{Image, Sectors, in_runs}
 use Rattle.fsd_files.specs.Files.{Change, after}
 use Rattle.fsd_files.specs.Kept.{Describes, Kept}
+use Rattle.fsd_files.specs.Scrub.{Picks, all_data}
 use Rattle.fsd_files.specs.Volume.{Volume}
 use Rattle.fsd_sound.specs.Anchors.{anchor_of}
 use Rattle.fsd_sound.specs.Mounted.{telling_of}
@@ -18,9 +19,12 @@ use Rattle.fsd_texts.specs.declared.fault.Fault.TheVariants as Ends
 use Rattle.fsd_texts.specs.declared.command.Command.{Command}
 use Rattle.fsd_texts.specs.declared.script_command.ScriptCommand.{ScriptCommand}
 use Rattle.fsd_texts.specs.declared.script_command.ScriptCommand.TheVariants.{Plain}
+use Rattle.fsd_bytes.specs.declared.key.Serial.{Serial}
 use Rattle.fsd_runs.specs.declared.request.Request.{Request}
+use Rattle.fsd_runs.specs.declared.request.Request.TheVariants.{Dump, Restore}
+use Rattle.fsd_runs.specs.Dumps.{AreWhole, IsSpoiltAt, chosen, dump_of}
 use Rattle.fsd_runs.specs.Commands.{answer, changes_of}
-use Rattle.fsd_runs.specs.Errands.{Answered, Cut, Errand, MayCut, Turn, answered_so, blank, cut_off, errand_of}
+use Rattle.fsd_runs.specs.Errands.{Answered, ByFault, ByRefusal, BySector, Cut, Damages, Errand, MayCut, Turn, answered_so, blank, cut_off, errand_of, first_refusal}
 use Rattle.fsd_runs.specs.Sessions.{Meeting, MayMeet, answer_in, finished, may_wear_out_in, session_over}
 
 -- ---- the volume that a run begins with
@@ -143,16 +147,41 @@ WearsOut s None = ⊥
 WearsOut s (Some command) = IsTrue (may_wear_out_in s command)
 
 abbrev pub IsCutBefore : Cut → Session → List ScriptCommand → Type 0
-IsCutBefore (Some (k, Ends.WornOut)) s commands = WearsOut s (slice_get commands k)
+IsCutBefore (Some (ByFault k Ends.WornOut)) s commands = WearsOut s (slice_get commands k)
 IsCutBefore cut s commands = ⊤
 
 -- and only where it is so
 abbrev pub IsCutAt : Cut → Volume → Image → Type 0
-IsCutAt (Some (k, Ends.WornOut)) v i = IsWornOut v i
+IsCutAt (Some (ByFault k Ends.WornOut)) v i = IsWornOut v i
 IsCutAt cut v i = ⊤
 
-abbrev pub errand_in : Request → (input : List ℕ) → Cut → Errand
-errand_in request input cut = cut_off cut (errand_of request input)
+abbrev pub errand_in : Request → (input : List ℕ) → Cut → Volume → Errand
+errand_in request input cut v = cut_off cut (errand_of request input v)
+
+-- what was answered last is refused, and nothing before it
+abbrev pub RefusesLast : (count : ℕ) → List Answered → Type 0
+RefusesLast count done = (length done ≡ count) × (first_refusal (take (count - 1) done) ≡ None) × IsSome (first_refusal done)
+
+-- A restore goes on as long as nothing is refused, and ends there.
+abbrev pub IsRestoredSo : Cut → List Answered → Type 0
+IsRestoredSo (Some (ByRefusal k)) done = RefusesLast k done
+IsRestoredSo cut done = first_refusal done ≡ None
+
+-- Once its head is said, no data sector of its versions was damaged as a dump began. It tells those that it has met at
+-- its first reading, at an image of the run at which nothing was said; and ends behind the versions in front of one with
+-- a sector that was whole then and is damaged at an image at which these were said.
+abbrev pub IsDumpedSo : Serial → Cut → (Passed : Moment → Type 0) → (base : List ℕ) → Volume → Image → Type 0
+IsDumpedSo since None Passed base v i = (m : Moment) (more : List ℕ) → Passed m → m.said ≡ base ++ (concat (take 1 (dump_of since v)) ++ more) → AreWhole i (chosen since v.entries)
+IsDumpedSo since (Some (Damages found)) Passed base v i = IsFalse (length found == 0) × ((j : Image) × StoodAt Passed base j × Picks i j (all_data (chosen since v.entries)) found)
+IsDumpedSo since (Some (BySector k s)) Passed base v i =
+    AreWhole i (chosen since v.entries) × ((j : Image) × StoodAt Passed (base ++ concat (take (suc k) (dump_of since v))) j × IsSpoiltAt j (chosen since v.entries) k s)
+IsDumpedSo since cut Passed base v i = ⊥
+
+-- what is asked of the replies of a restore, and of how a dump goes
+abbrev pub GoesSo : Request → Cut → (Passed : Moment → Type 0) → (base : List ℕ) → Volume → Image → List Answered → Type 0
+GoesSo Restore cut Passed base v i done = IsRestoredSo cut done
+GoesSo (Dump since) cut Passed base v i done = IsDumpedSo since cut Passed base v i
+GoesSo request cut Passed base v i done = ⊤
 
 -- What the words ask for is done over this volume, from the image i on: where it is cut off, if it is, and what the
 -- commands that were begun meet. Passed is the moments of the run, and base what was said before it.
@@ -160,20 +189,21 @@ pub record Course (request : Request) (input : List ℕ) (windows : List WeakRun
   pub cut : Cut
   pub may : MayCut request cut
   pub mets : List Meeting
-  pub before : IsCutBefore cut (session_behind mets (session_over v) (errand_in request input cut).commands) (errand_of request input).commands
-  pub goes : Goes (in_runs windows) Passed (IsCutAt cut) (errand_in request input cut) base i (session_over v) mets (errand_in request input cut).commands
+  pub before : IsCutBefore cut (session_behind mets (session_over v) (errand_in request input cut v).commands) (errand_of request input v).commands
+  pub goes : Goes (in_runs windows) Passed (IsCutAt cut) (errand_in request input cut v) base i (session_over v) mets (errand_in request input cut v).commands
+  pub so : GoesSo request cut Passed base v i (answered mets (session_over v) (errand_in request input cut v).commands)
 
 module _ {request : Request} {input : List ℕ} {windows : List WeakRun} {Passed : Moment → Type 0} {base : List ℕ} {v : Volume} {i : Image} (r : Course request input windows Passed base v i) where
   abbrev pub run_turns : List Turn
-  run_turns = turns_of (errand_in request input r.cut) r.mets (session_over v)
+  run_turns = turns_of (errand_in request input r.cut v) r.mets (session_over v)
 
   abbrev pub run_status : ℕ
-  run_status = ((errand_in request input r.cut).ends (answered r.mets (session_over v) (errand_in request input r.cut).commands)).status
+  run_status = ((errand_in request input r.cut v).ends (answered r.mets (session_over v) (errand_in request input r.cut v).commands)).status
 
   -- the volume behind the commands that were begun: what clients have open is dropped, or done
   abbrev pub run_end : Volume
-  run_end = (finished (session_behind r.mets (session_over v) (errand_in request input r.cut).commands)).volume
+  run_end = (finished (session_behind r.mets (session_over v) (errand_in request input r.cut v).commands)).volume
 
   -- all commands were begun
   abbrev pub IsThrough : Type 0
-  IsThrough = length r.mets ≡ length (errand_in request input r.cut).commands
+  IsThrough = length r.mets ≡ length (errand_in request input r.cut v).commands

@@ -1,5 +1,5 @@
 //! What the words of the command line ask for.
-use fsd_bytes::FileName;
+use fsd_bytes::{FileName, Serial};
 use fsd_texts::{Cause, Command};
 use volume_layout::Kind;
 
@@ -29,6 +29,10 @@ pub enum Request {
         seed: u64,
         count: u32,
     },
+    /// The versions whose serial is greater are to be said as one text.
+    Dump(Serial),
+    /// The input is such a text, whose versions are to be made again.
+    Restore,
     /// Lives of volumes in memory. It names no image.
     Drill,
 }

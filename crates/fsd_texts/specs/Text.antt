@@ -13,7 +13,8 @@ use Rattle.fsd_texts.specs.declared.bad_line.BadLine.{BadLine}
 use Rattle.fsd_texts.specs.declared.fault.Fault.{Fault}
 use Rattle.fsd_texts.specs.declared.fault.Fault.TheVariants as Ends
 use Rattle.fsd_texts.specs.declared.line.Line.{Line}
-use Rattle.fsd_texts.specs.declared.line.Line.TheVariants.{Usage, Bad, Formatted, Unplanned, Forced, Generated, Life, Refused, Ended}
+use Rattle.fsd_texts.specs.declared.line.Line.TheVariants as Says
+use Rattle.fsd_texts.specs.declared.line.Line.TheVariants.{Usage, Bad, Formatted, Unplanned, Forced, Generated, Life, Refused, NoDump, Restored, Ended}
 use Rattle.fsd_texts.specs.declared.part.Part.{Part}
 use Rattle.fsd_texts.specs.declared.part.Part.TheVariants as Parts
 
@@ -108,6 +109,10 @@ text (Generated c) =
     ∷ codes "read" ∷ number c.read ∷ codes "bytes" ∷ number c.bytes ∷ codes "refused" ∷ number c.refused ∷ [])
 text (Life life) = line (codes "life" ∷ number life ∷ [])
 text (Refused why) = refused_line (refusal_words why)
+text (NoDump place) = refused_line (codes "dump" ∷ number place ∷ [])
+text (Says.Exists key) = refused_line (codes "exists" ∷ key_text key ∷ [])
+text (Restored count) = line (codes "restored" ∷ number count ∷ [])
+text (Says.Damaged key s) = line (codes "damaged" ∷ key_text key ∷ number s ∷ [])
 text (Ended fault) = fault_text fault
 
 -- what a format says: all data sectors are free

@@ -3,6 +3,7 @@ ghost use Rattle.std.specs.Prelude.{◌≡◌};
 ghost use Rattle.fsd_texts.specs.Script.{lone_in, lone_words};
 
 use crate::bytes::Bytes;
+use crate::numbered_key::NumberedKey;
 use fsd_bytes::{FileName, Key, Pattern};
 
 /// What may be asked of a volume.
@@ -24,6 +25,12 @@ pub enum Command {
     Move {
         key: Key,
         name: FileName,
+    },
+    /// A version of this key, where there is none. No line of a script asks for it.
+    Load {
+        key: NumberedKey,
+        keep: u32,
+        bytes: Bytes,
     },
     List(Pattern),
     Get(Key),

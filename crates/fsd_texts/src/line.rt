@@ -2,7 +2,7 @@
 use crate::bad_line::BadLine;
 use crate::counts::Counts;
 use crate::fault::Fault;
-use fsd_bytes::Refusal;
+use fsd_bytes::{Key, Refusal};
 use volume_layout::LayoutFault;
 
 /// A line that a run says. One that a reply alone says is no variant: it is said by its parts.
@@ -21,5 +21,13 @@ pub enum Line {
     /// What is said behind it is of this life of a drill.
     Life(u32),
     Refused(Refusal),
+    /// The input is no dump from this place on.
+    NoDump(u32),
+    /// A version of a dump is there already.
+    Exists(Key),
+    /// So many versions of a dump were made again.
+    Restored(u32),
+    /// A data sector of a version is damaged.
+    Damaged { key: Key, sector: u32 },
     Ended(Fault),
 }

@@ -8,13 +8,16 @@ use Rattle.version_table.specs.declared.planning.Plan.{Plan}
 use Rattle.version_table.specs.Loading.{IsLoadPlan}
 use Rattle.cached_table.specs.Loading.{RefusesLoad}
 use Rattle.cached_table.proofs.EnteringLaws.{outer_planned, plan_refuses, plan_shows}
-use Rattle.cached_table.proofs.LoadingLaws.{absent_by, loads_behind, refused_load}
+use Rattle.cached_table.proofs.LoadingLaws.{absent_by, false_told, loads_behind, refused_load}
 use Rattle.cached_table.proofs.loading.load_at.Goals as goal
 
 -- ---- no plan
 
 pub returns-in-Ok-None-clause-pages : goal.returns-in-Ok-None-clause-pages
 returns-in-Ok-None-clause-pages g c = walks_pages g.T.Pages c.args.t.now c.plan_load.new.t c.in-Ok-None.ensures.walks
+
+pub returns-in-Ok-None-clause-loaded : goal.returns-in-Ok-None-clause-loaded
+returns-in-Ok-None-clause-loaded g c = λ is. absurd (false_told is)
 
 pub returns-in-Err-clause-pages : goal.returns-in-Err-clause-pages
 returns-in-Err-clause-pages g c = walks_pages g.T.Pages c.args.t.now c.plan_load.new.t c.in-Err.ensures.walks

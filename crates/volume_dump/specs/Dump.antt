@@ -1,0 +1,122 @@
+-- What a dump says of a volume, and why none is said.
+use Rattle.std.specs.Prelude.{◌≡◌, ◌⊎◌, ⊤, ℕ, suc, Bool, true, false, List, [], ◌∷◌, ◌++◌, length, take, IsSome, IsFalse, IfErr, Result, Ok, Err, Option, Some, None, ◌==◌, slice_get, IsTrue}
+use Rattle.std.specs.List.{concat}
+use Rattle.volume_layout.specs.declared.layout.Layout.{Layout}
+use Rattle.volume_layout.specs.Layout.{is_data}
+use Rattle.fsd_bytes.specs.declared.key.Key.{Key}
+use Rattle.fsd_bytes.specs.declared.key.Serial.{Serial}
+use Rattle.fsd_bytes.specs.declared.refusal.Refusal.{Refusal}
+use Rattle.fsd_bytes.specs.declared.refusal.Refusal.TheVariants as Why
+use Rattle.sector_disk.specs.declared.machine.Machine.{Ghosts}
+use Rattle.sector_disk.specs.declared.sector.Sector.TheVariants.{Damaged}
+use Rattle.sector_disk.specs.Calls.{Counts, DiskFaults, Since}
+use Rattle.sector_disk.specs.Image.{IsWorn, open_damage, sector_at}
+use Rattle.sector_disk.specs.Machine.{LeavesOnly, Moment, Trusts, Utters}
+use Rattle.fsd_log.specs.Scan.{Placed}
+use Rattle.fsd_files.specs.Disk.{Image}
+use Rattle.fsd_files.specs.Scrub.{Picks, all_data}
+use Rattle.fsd_files.specs.Volume.{Volume}
+use Rattle.fsd_sound.specs.Mounted.{Mounted}
+use Rattle.fsd_runs.specs.Dumps.{AreWhole, IsSpoiltAt, chosen, dump_of}
+use Rattle.volume_contract.specs.Ends.{device_of}
+use Rattle.volume_contract.specs.Order.{Asks, CallStep, Comes, Data, LookUp, Through, down}
+use Rattle.volume_contract.specs.State.{Known, Stands, State, volume_of}
+use Rattle.scrub.specs.Looking.{AreDamaged}
+use Rattle.scrub.specs.Telling.{TellsOn}
+use Rattle.volume_dump.specs.declared.fault.DumpFault.{DumpFault}
+use Rattle.volume_dump.specs.declared.fault.DumpFault.TheVariants.{Refused, Found, Cut, Output, Memory}
+
+-- ---- over any machine
+
+-- pages that change between the two readings may lack a version that they have shown
+abbrev pub dump_steps : State → List CallStep
+dump_steps s = down s ∷ LookUp ∷ Asks Why.NoSuch ∷ Data ∷ []
+
+-- a refusal is told as one, but for want of memory and a damaged sector
+abbrev pub RefusesSo : State → Refusal → Type 0
+RefusesSo s Why.Memory = ⊥
+RefusesSo s (Why.Damaged t) = ⊥
+RefusesSo s why = Comes (dump_steps s) why
+
+abbrev pub FollowsDump : State → Result ℕ DumpFault → Type 0
+FollowsDump s (Ok count) = Through (dump_steps s)
+FollowsDump s (Err (Refused why)) = RefusesSo s why
+FollowsDump s (Err other) = Through (down s ∷ [])
+
+-- the place of the call of the disk that failed, where the fault tells one
+abbrev pub device_in_dump : Result ℕ DumpFault → Option ℕ
+device_in_dump (Err (Refused why)) = device_of why
+device_in_dump other = None
+
+abbrev pub is_unsaid_dump : Result ℕ DumpFault → Bool
+is_unsaid_dump (Err Output) = true
+is_unsaid_dump other = false
+
+-- some bytes are said, and the sectors are worn
+abbrev pub SaysSome : Moment → Moment → Type 0
+SaysSome old left = (bytes : List ℕ) × Utters bytes old left
+
+-- A call that reads the disk and says, by the place of the fault of the disk that it tells, and by whether it tells one of
+-- the output; of which a stop leaves this.
+pub record ReadsAndSays {D : Type 0} (M : Ghosts D) (fault : Option ℕ) (unsaid : Bool) (R : Moment → Moment → Type 0) (old new : D) : Type 0 where
+  pub sectors : (M.report new).sectors ≡ (M.report old).sectors
+  pub faults : DiskFaults fault (M.report old) (M.report new)
+  pub input : (M.report new).input_faults ≡ (M.report old).input_faults
+  pub output : Counts unsaid (M.report old).output_faults (M.report new).output_faults
+  pub trust : Trusts (M.tells old) (M.tells new) (M.honest old) (M.honest new)
+  pub ledger : M.tells new → M.ledger new ≡ M.ledger old
+  pub exit : M.honest new → R (M.now old) (M.now new)
+  pub since : M.honest new → Since M old new
+  pub any_moment : M.honest new → LeavesOnly M.moment M.left_since old new (R (M.now old))
+
+-- What it tells of any image, by the layout of its volume alone.
+abbrev pub TellsDump : Layout → Image → Result ℕ DumpFault → Type 0
+TellsDump l i (Err (Refused why)) = TellsOn l i why
+TellsDump l i (Err (Found found)) = IsFalse (length found.items == 0) × AreDamaged l i found.items
+TellsDump l i (Err (Cut s)) = IsTrue (is_data l s) × (sector_at i s ≡ Damaged)
+TellsDump l i other = ⊤
+
+-- ---- over a volume that stands
+
+-- what a stop leaves: some first bytes of the dump are said
+abbrev pub LeavesDumped : {S : Type 0} → (state : S → State) → (has : S → Mounted → List Placed → Type 0) → S → Serial → Moment → Moment → Type 0
+LeavesDumped state has s since old left = SaysSome old left × ((k : Known) → Stands state has s k old → Utters (concat (dump_of since (volume_of k))) old left)
+
+-- So many versions are chosen, none of their data sectors was damaged as it began, and their dump is said.
+pub record HasDumped (since : Serial) (v : Volume) (old new : Moment) (count : ℕ) : Type 0 where
+  pub whole : AreWhole old.image (chosen since v.entries)
+  pub counts : count ≡ length (chosen since v.entries)
+  pub said : new.said ≡ old.said ++ concat (dump_of since v)
+
+-- Of their data sectors those that read damaged are found, and no others; nothing is said.
+pub record FindsDamages (since : Serial) (v : Volume) (old new : Moment) (found : List (Key × ℕ)) : Type 0 where
+  pub some : IsFalse (length found == 0)
+  pub finds : Picks old.image new.image (all_data (chosen since v.entries)) found
+  pub quiet : new.said ≡ old.said
+
+-- None was damaged as it began, but one of the version is now that is next behind those that are said.
+pub record IsCutOff (since : Serial) (v : Volume) (old new : Moment) (s : ℕ) : Type 0 where
+  pub whole : AreWhole old.image (chosen since v.entries)
+  pub count : ℕ
+  pub spoilt : IsSpoiltAt new.image (chosen since v.entries) count s
+  pub said : new.said ≡ old.said ++ concat (take (suc count) (dump_of since v))
+
+-- None was damaged as it began, and some first parts are said, not all.
+pub record SaysParts (since : Serial) (v : Volume) (old new : Moment) : Type 0 where
+  pub whole : AreWhole old.image (chosen since v.entries)
+  pub count : ℕ
+  pub more : IsSome (slice_get (dump_of since v) count)
+  pub said : new.said ≡ old.said ++ concat (take count (dump_of since v))
+
+-- a fault from outside has ended it, at its first reading, or between two parts
+abbrev pub BreaksOff : Serial → Volume → (old new : Moment) → Type 0
+BreaksOff since v old new = (new.said ≡ old.said) ⊎ SaysParts since v old new
+
+abbrev pub EndsDump : Serial → Volume → (old new : Moment) → Result ℕ DumpFault → Type 0
+EndsDump since v old new (Ok count) = HasDumped since v old new count
+EndsDump since v old new (Err (Found found)) = FindsDamages since v old new found.items
+EndsDump since v old new (Err (Cut s)) = IsCutOff since v old new s
+EndsDump since v old new (Err Output) = AreWhole old.image (chosen since v.entries)
+EndsDump since v old new (Err Memory) = BreaksOff since v old new
+EndsDump since v old new (Err (Refused (Why.Device s))) = BreaksOff since v old new
+EndsDump since v old new (Err (Refused other)) = ⊥

@@ -1,0 +1,25 @@
+//! Why a dump is not said, or not to its end.
+
+use fsd_bytes::{Key, Refusal};
+use thiserror::Error;
+
+/// Why a dump is not said, or not to its end.
+#[derive(Debug, Drop, Error)]
+pub enum DumpFault {
+    /// The volume is down, the device has failed, or the name table is lost or unsound.
+    #[error("{0}")]
+    Refused(Refusal),
+    /// These data sectors are damaged, by key and then by place in the file. Nothing was said.
+    #[error("data sectors are damaged")]
+    Found(Vec<(Key, u32)>),
+    /// This data sector was whole at the first reading and is damaged at the second. The versions in front of its own
+    /// were said.
+    #[error("sector {0} is damaged")]
+    Cut(u32),
+    /// The output has failed.
+    #[error("the output has failed")]
+    Output,
+    /// Memory was refused.
+    #[error("memory was refused")]
+    Memory,
+}
