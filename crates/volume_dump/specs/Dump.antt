@@ -38,17 +38,17 @@ RefusesSo s Why.Memory = ⊥
 RefusesSo s (Why.Damaged t) = ⊥
 RefusesSo s why = Comes (dump_steps s) why
 
-abbrev pub FollowsDump : State → Result ℕ DumpFault → Type 0
-FollowsDump s (Ok count) = Through (dump_steps s)
+abbrev pub FollowsDump : {T : Type 0} → State → Result T DumpFault → Type 0
+FollowsDump s (Ok x) = Through (dump_steps s)
 FollowsDump s (Err (Refused why)) = RefusesSo s why
 FollowsDump s (Err other) = Through (down s ∷ [])
 
 -- the place of the call of the disk that failed, where the fault tells one
-abbrev pub device_in_dump : Result ℕ DumpFault → Option ℕ
+abbrev pub device_in_dump : {T : Type 0} → Result T DumpFault → Option ℕ
 device_in_dump (Err (Refused why)) = device_of why
 device_in_dump other = None
 
-abbrev pub is_unsaid_dump : Result ℕ DumpFault → Bool
+abbrev pub is_unsaid_dump : {T : Type 0} → Result T DumpFault → Bool
 is_unsaid_dump (Err Output) = true
 is_unsaid_dump other = false
 
@@ -70,7 +70,7 @@ pub record ReadsAndSays {D : Type 0} (M : Ghosts D) (fault : Option ℕ) (unsaid
   pub any_moment : M.honest new → LeavesOnly M.moment M.left_since old new (R (M.now old))
 
 -- What it tells of any image, by the layout of its volume alone.
-abbrev pub TellsDump : Layout → Image → Result ℕ DumpFault → Type 0
+abbrev pub TellsDump : {T : Type 0} → Layout → Image → Result T DumpFault → Type 0
 TellsDump l i (Err (Refused why)) = TellsOn l i why
 TellsDump l i (Err (Found found)) = IsFalse (length found.items == 0) × AreDamaged l i found.items
 TellsDump l i (Err (Cut s)) = IsTrue (is_data l s) × (sector_at i s ≡ Damaged)

@@ -1,0 +1,5 @@
+pub mod ToldLaws
+pub mod TextLaws
+pub mod SaidLaws
+pub mod EntryLaws
+pub mod SurveyLaws
