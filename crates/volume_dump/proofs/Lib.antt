@@ -3,3 +3,5 @@ pub mod TextLaws
 pub mod SaidLaws
 pub mod EntryLaws
 pub mod SurveyLaws
+pub mod OneLaws
+pub mod RowLaws

@@ -36,6 +36,13 @@ next_comes s why (inl here) = inl here
 next_comes s why (inr (passes, inl looks)) = inr (passes, inl looks)
 next_comes s why (inr (passes, inr later)) = absurd later.1
 
+-- and tells no data sector
+pub undamaged : (s : State) (why : Refusal) → Comes (next_steps s) why → (t : ℕ) → why ≡ Why.Damaged t → ⊥
+undamaged s (Why.Damaged n) (inl here) t is = only_down s.down (Why.Damaged n) (λ m no. cc no) here
+undamaged s (Why.Damaged n) (inr (passes, inl looks)) t is = looks
+undamaged s (Why.Damaged n) (inr (passes, inr later)) t is = later.1
+undamaged s why comes t is = cc is
+
 device_by : (T : Type 0) (why : Refusal) → device_in_dump {T = T} (Err (told_as why)) ≡ device_of why
 device_by T Why.Memory = refl
 device_by T (Why.Damaged s) = refl

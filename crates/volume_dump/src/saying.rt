@@ -1,5 +1,5 @@
 //! A second reading of the versions, which says each one once it is read.
-ghost use Rattle.std.specs.Prelude.{◌≡◌, ◌≤◌, ◌<◌, ◌^◌, ◌∷◌, ⊤, [], length, None, true, IfErr, IfOk, MatchResult, OnOk};
+ghost use Rattle.std.specs.Prelude.{◌≡◌, ◌≤◌, ◌<◌, ◌^◌, ◌∷◌, ⊤, [], length, None, false, true, IfErr, IfOk, MatchResult, OnOk};
 ghost use Rattle.sector_disk.specs.Machine.{Says, Utters};
 ghost use Rattle.fsd_dumps.specs.Dump.{item_bytes};
 ghost use Rattle.fsd_formats.specs.NamePage.{is_entry};
@@ -59,6 +59,7 @@ fn read_version<M: Machine, V: Files<M>>(
     requires up { (V.state v.old).down ≡ None }
     ensures order { FollowsDump (V.state v.old) result }
     ensures reads { ReadsVolume M.Machine V.state V.holds (device_in_dump result) v.old v.new m.old m.new }
+    ensures unsaid { is_unsaid_dump result ≡ false }
     ensures tells { M.honest m.new → TellsDump (V.state v.old).layout (M.now m.new).image result }
     ensures long { IfOk result (λ bytes. length bytes.items < 2 ^ 32) }
     ensures done { M.honest m.new → (k : Known) → Stands V.state V.holds v.old k (M.now m.old) → IsEntered e.now k → MatchResult result (λ bytes. bytes.items ≡ (dumped_of (volume_of k).files e.now).bytes) (IsUnread e.now (M.now m.new).image) }

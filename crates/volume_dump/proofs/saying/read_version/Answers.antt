@@ -6,7 +6,7 @@ use Rattle.scrub.proofs.ToldLaws.{told_by}
 use Rattle.volume_dump.specs.declared.fault.DumpFault.{DumpFault}
 use Rattle.volume_dump.specs.Saying.{IsUnread}
 use Rattle.volume_dump.proofs.EntryLaws.{read_not, read_whole, written_front}
-use Rattle.volume_dump.proofs.ToldLaws.{device_told, follows_told, tells_told}
+use Rattle.volume_dump.proofs.ToldLaws.{device_told, follows_told, tells_told, unsaid_told}
 use Rattle.volume_dump.proofs.saying.read_version.Goals as goal
 
 pub returns-in-Ok-read-clause-done : goal.returns-in-Ok-read-clause-done
@@ -48,3 +48,6 @@ returns-in-Err-clause-done g c h k stands entered =
     let read = c.in-Err.ensures in
     subst (λ (fault : DumpFault). IsUnread c.args.e.now (now c.read.new.m).image fault) (sym c.fault_of.ensures)
     (read_not (now c.args.m.now).image (now c.read.new.m).image (volume_of k) c.args.e.now entered _ _ c.in-Err.why (read.done h k stands))
+
+pub returns-in-Err-clause-unsaid : goal.returns-in-Err-clause-unsaid
+returns-in-Err-clause-unsaid g c = unsaid_told ℕ c.in-Err.why c.fault_of.result c.fault_of.ensures
