@@ -1,6 +1,6 @@
 -- One version: its place among the entries, and what a read of all its bytes gives.
-use Rattle.std.proofs.Common.{◌≡◌, inl, inr, ℕ, zero, suc, ◌+◌, ◌-◌, ◌≤◌, Bool, true, false, cond, List, [], ◌∷◌, ◌++◌, length, take, drop, Option, Some, None, refl, sym, ap, ◌∙◌, subst, arith}
-use Rattle.std.specs.Prelude.{Contains, IsTrue, Result, Ok, Err, min, slice_get}
+use Rattle.std.proofs.Common.{◌≡◌, inl, inr, ℕ, zero, suc, ◌≤◌, Bool, true, cond, List, [], ◌∷◌, ◌++◌, length, take, drop, Option, Some, None, refl, sym, ap, ◌∙◌, subst, arith}
+use Rattle.std.specs.Prelude.{Contains, Ok, Err}
 use Rattle.std.specs.List.{AllByRecursion}
 use Rattle.std.specs.FinMap.{find, is_sorted}
 use Rattle.std.specs.Ordering.{is_eq}
@@ -8,10 +8,9 @@ use Rattle.std.proofs.lemmas.Cmp.{tied_itself}
 use Rattle.std.proofs.lemmas.List.{take-append-drop}
 use Rattle.std.proofs.lemmas.List.Elements.{Contains-append_left, Contains-append_right}
 use Rattle.std.proofs.Math.Seq.{take-append_seam, take-length}
-use Rattle.fsd_bytes.specs.declared.key.Key.{Key}
 use Rattle.fsd_bytes.specs.declared.refusal.Refusal.{Refusal}
 use Rattle.fsd_bytes.specs.declared.refusal.Refusal.TheVariants as Why
-use Rattle.fsd_bytes.specs.Keys.{key_cmp, key_lt, same_key}
+use Rattle.fsd_bytes.specs.Keys.{key_cmp, key_lt}
 use Rattle.run_table.specs.declared.run.Run.{Run}
 use Rattle.fsd_formats.specs.declared.entry.Entry.{Entry}
 use Rattle.sector_disk.specs.declared.sector.Sector.TheVariants.{Damaged}
@@ -27,7 +26,7 @@ use Rattle.fsd_files.specs.Volume.{Volume}
 use Rattle.fsd_files.proofs.FreshLaws.{of_T}
 use Rattle.fsd_sound.specs.Mounted.{Mounted}
 use Rattle.fsd_runs.specs.Dumps.{bytes_found}
-use Rattle.volume_contract.specs.Ends.{GivesBytes, ReadsRange, count_in}
+use Rattle.volume_contract.specs.Ends.{ReadsRange, count_in}
 use Rattle.volume_contract.specs.State.{Known, Stands, State, volume_of}
 use Rattle.scrub.proofs.WalkLaws.{Ascend, ascend_listed, files_in_order}
 use Rattle.volume_dump.specs.Saying.{IsEntered, IsUnread}

@@ -5,3 +5,6 @@ pub mod EntryLaws
 pub mod SurveyLaws
 pub mod OneLaws
 pub mod RowLaws
+pub mod DumpLaws
+pub mod WholeLaws
+pub mod EndLaws

@@ -8,13 +8,13 @@ use Rattle.fsd_bytes.specs.declared.refusal.Refusal.TheVariants as Why
 use Rattle.fsd_dumps.specs.Dump.{item_bytes}
 use Rattle.fsd_formats.specs.declared.entry.Entry.{Entry}
 use Rattle.sector_disk.specs.declared.machine.Machine.{Ghosts}
-use Rattle.sector_disk.specs.Machine.{Moment, Says, Utters, Wears}
+use Rattle.sector_disk.specs.Machine.{Moment, Says, Wears}
 use Rattle.fsd_log.specs.Scan.{Placed}
 use Rattle.fsd_files.specs.Files.{Files}
 use Rattle.fsd_files.specs.Volume.{Volume}
 use Rattle.fsd_sound.specs.Mounted.{Mounted}
 use Rattle.fsd_runs.specs.Dumps.{dumped_of, serial_lt}
-use Rattle.volume_contract.specs.State.{Known, Stands, State}
+use Rattle.volume_contract.specs.State.{Known, State}
 use Rattle.volume_dump.specs.declared.fault.DumpFault.{DumpFault}
 use Rattle.volume_dump.specs.declared.fault.DumpFault.TheVariants.{Refused, Found, Cut, Output, Memory}
 use Rattle.volume_dump.specs.Dump.{device_in_dump}

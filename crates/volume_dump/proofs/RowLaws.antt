@@ -1,6 +1,6 @@
 -- Versions that are said, one after another.
-use Rattle.std.proofs.Common.{◌≡◌, ℕ, ◌+◌, ◌≤◌, Bool, false, List, [], ◌∷◌, ◌++◌, Option, Some, None, refl, sym, ap, ◌∙◌, subst, append_assoc}
-use Rattle.std.specs.Prelude.{Result, Ok, Err, ⊤}
+use Rattle.std.proofs.Common.{◌≡◌, ℕ, ◌+◌, ◌≤◌, Bool, false, List, [], ◌∷◌, ◌++◌, Option, Some, None, refl, sym, ap, ◌∙◌, append_assoc}
+use Rattle.std.specs.Prelude.{Result, Err, ⊤}
 use Rattle.std.proofs.lemmas.List.{append-nil}
 use Rattle.fsd_bytes.specs.declared.key.Key.{Key}
 use Rattle.fsd_bytes.specs.declared.key.Serial.{Serial}
@@ -8,7 +8,7 @@ use Rattle.fsd_bytes.specs.declared.refusal.Refusal.{Refusal}
 use Rattle.fsd_bytes.specs.declared.refusal.Refusal.TheVariants as Why
 use Rattle.fsd_formats.specs.declared.entry.Entry.{Entry}
 use Rattle.fsd_log.specs.Scan.{Placed}
-use Rattle.sector_disk.specs.Machine.{Moment, Says, Utters, Wears}
+use Rattle.sector_disk.specs.Machine.{Moment, Utters, Wears}
 use Rattle.fsd_files.specs.Answers.{entry_after}
 use Rattle.fsd_files.specs.Volume.{Volume}
 use Rattle.fsd_files.specs.declared.reply.Reply.TheVariants.{Found as FoundOne}
@@ -21,7 +21,7 @@ use Rattle.volume_dump.specs.declared.fault.DumpFault.TheVariants.{Refused, Foun
 use Rattle.sector_disk.specs.declared.machine.Machine.{Ghosts}
 use Rattle.scrub.specs.Reading.{ReadsVolume}
 use Rattle.volume_dump.specs.Dump.{SaysSome}
-use Rattle.volume_dump.specs.Saying.{EndsEntries, EndsEntry, HasSaid, IsEntered, LeavesSaying, SaysFront, SaysVolume, said_of}
+use Rattle.volume_dump.specs.Saying.{EndsEntries, EndsEntry, HasSaid, IsEntered, LeavesSaying, SaysVolume, said_of}
 use Rattle.volume_dump.specs.Told.{told_as}
 use Rattle.volume_dump.proofs.EntryLaws.{entered}
 use Rattle.volume_dump.proofs.SaidLaws.{volume_reads_says, volume_says_after}
@@ -106,9 +106,10 @@ module _ {D S : Type 0} {M : Ghosts D} {state : S → State} {has : S → Mounte
   row_reads next = volume_says_after was (volume_reads_says next) (λ h left so. so)
       (λ h left worn.
       let back = next.disk.trust.honest h in
-      let some = (was.disk.exit back).0 in
-      (some_then (M.now a) (M.now b) left some (wears_some (M.now b) left worn),
-        λ k stands is. row_wears state has x k since (M.now a) (M.now b) (was.stands back k stands) some count last (said back k stands) left worn))
+      let some = (was.disk.exit back).0 in (
+        some_then (M.now a) (M.now b) left some (wears_some (M.now b) left worn),
+        λ k stands is. row_wears state has x k since (M.now a) (M.now b) (was.stands back k stands) some count last (said back k stands) left worn,
+      ))
 
   -- and the version that it finds
   pub row_says : {z : S} {d : D} {fault : Option ℕ} {unsaid : Bool} (e : Entry) → ReadsVolume M state has None x y b c → (M.honest c → (k : Known) → Stands state has v k (M.now a) → FoundOne (entry_after last (volume_of k).entries) ≡ FoundOne (Some e))
@@ -117,11 +118,12 @@ module _ {D S : Type 0} {M : Ghosts D} {state : S → State} {has : S → Mounte
       (λ h left leaves.
       let there = call.disk.trust.honest h in
       let back = next.disk.trust.honest there in
-      let some = (was.disk.exit back).0 in
-      (some_then (M.now a) (M.now c) left (some_then (M.now a) (M.now b) (M.now c) some (wears_some (M.now b) (M.now c) (next.disk.worn there))) leaves.0,
+      let some = (was.disk.exit back).0 in (
+        some_then (M.now a) (M.now c) left (some_then (M.now a) (M.now b) (M.now c) some (wears_some (M.now b) (M.now c) (next.disk.worn there))) leaves.0,
         λ k stands is.
             let here = was.stands back k stands in
             let found = looks there k stands in
             let row = said back k stands in
             row_utters state has x k since (M.now a) (M.now b) here some count last row e found (M.now c) left (next.disk.worn there)
-            (leaves.1 k (next.stands there k here) (row_entered state has x k since (M.now a) (M.now b) here some count last row e found))))
+            (leaves.1 k (next.stands there k here) (row_entered state has x k since (M.now a) (M.now b) here some count last row e found)),
+      ))

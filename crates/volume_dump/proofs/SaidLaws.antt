@@ -1,9 +1,9 @@
 -- Calls that read a volume and say.
-use Rattle.std.proofs.Common.{◌≡◌, ℕ, Bool, true, false, List, Option, Some, None, refl, sym, ◌∙◌, subst, arith}
+use Rattle.std.proofs.Common.{◌≡◌, ℕ, Bool, false, List, Option, None, refl, ◌∙◌, subst, arith}
 use Rattle.sector_disk.specs.declared.machine.Machine.{Ghosts}
-use Rattle.sector_disk.specs.Calls.{Counts, DiskFaults, OnlyReads}
+use Rattle.sector_disk.specs.Calls.{Counts, OnlyReads}
 use Rattle.sector_disk.specs.Image.{AreShort}
-use Rattle.sector_disk.specs.Machine.{Moment, Report, Utters, Wears}
+use Rattle.sector_disk.specs.Machine.{Moment, Utters, Wears}
 use Rattle.sector_disk.proofs.CallLaws.{faults_then}
 use Rattle.sector_disk.proofs.Holding.{trusts_on}
 use Rattle.sector_disk.proofs.Moments.{leaves_more, then_on}
@@ -11,7 +11,7 @@ use Rattle.fsd_log.specs.Scan.{Placed}
 use Rattle.fsd_sound.specs.Mounted.{Mounted}
 use Rattle.volume_contract.specs.State.{Ages, Known, Stands, State}
 use Rattle.scrub.specs.Reading.{ReadsVolume}
-use Rattle.volume_dump.specs.Dump.{ReadsAndSays, SaysSome}
+use Rattle.volume_dump.specs.Dump.{ReadsAndSays}
 use Rattle.volume_dump.specs.Saying.{SaysVolume}
 
 counts_then : (fails : Bool) (a b c : ℕ) → b ≡ a → Counts fails b c → Counts fails a c

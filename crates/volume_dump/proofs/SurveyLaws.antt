@@ -1,5 +1,5 @@
 -- Entries that are surveyed, one after another.
-use Rattle.std.proofs.Common.{◌≡◌, ℕ, ◌+◌, ◌≤◌, Bool, true, false, List, [], ◌∷◌, ◌++◌, length, map, Option, Some, None, refl, sym, ap, ◌∙◌, subst, arith, length-append}
+use Rattle.std.proofs.Common.{◌≡◌, ℕ, ◌+◌, ◌≤◌, Bool, true, false, List, [], ◌∷◌, ◌++◌, length, map, Option, Some, None, sym, ap, ◌∙◌, subst, arith, length-append}
 use Rattle.std.specs.Prelude.{Result, Ok, Err, if◌then◌else◌}
 use Rattle.std.specs.List.{fold}
 use Rattle.std.proofs.lemmas.List.{map-append}
@@ -22,7 +22,6 @@ use Rattle.fsd_files.proofs.ScrubLaws.{picks_longer}
 use Rattle.fsd_sound.specs.Mounted.{Mounted}
 use Rattle.volume_contract.specs.State.{Known, Stands, State, volume_of}
 use Rattle.scrub.specs.Looking.{Adds}
-use Rattle.scrub.specs.Walk.{IsWalked}
 use Rattle.scrub.proofs.LookLaws.{Any, anything, data_both, picks_both, picks_on}
 use Rattle.scrub.proofs.WalkLaws.{walked_all, walked_counted, walked_more, walked_none}
 use Rattle.volume_dump.specs.declared.survey.Tally.{Tally}

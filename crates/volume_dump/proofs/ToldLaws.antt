@@ -1,6 +1,6 @@
 -- What refusals are told as.
-use Rattle.std.proofs.Common.{◌≡◌, inl, inr, ℕ, Bool, false, Option, Some, None, refl, sym, ap, ◌∙◌, subst}
-use Rattle.std.specs.Prelude.{IsTrue, Result, Err, option_map}
+use Rattle.std.proofs.Common.{◌≡◌, inl, inr, ℕ, false, Option, Some, None, refl, sym, ap, ◌∙◌, subst}
+use Rattle.std.specs.Prelude.{IsTrue, Err, option_map}
 use Rattle.volume_layout.specs.declared.layout.Layout.{Layout}
 use Rattle.volume_layout.specs.Layout.{is_data}
 use Rattle.fsd_bytes.specs.declared.refusal.Refusal.{Refusal}

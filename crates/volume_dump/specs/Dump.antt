@@ -1,5 +1,5 @@
 -- What a dump says of a volume, and why none is said.
-use Rattle.std.specs.Prelude.{◌≡◌, ◌⊎◌, ⊤, ℕ, suc, Bool, true, false, List, [], ◌∷◌, ◌++◌, length, take, IsSome, IsFalse, IfErr, Result, Ok, Err, Option, Some, None, ◌==◌, slice_get, IsTrue}
+use Rattle.std.specs.Prelude.{◌≡◌, ◌⊎◌, ⊤, ℕ, suc, Bool, true, false, List, [], ◌∷◌, ◌++◌, length, take, IsSome, IsFalse, Result, Ok, Err, Option, None, ◌==◌, slice_get, IsTrue}
 use Rattle.std.specs.List.{concat}
 use Rattle.volume_layout.specs.declared.layout.Layout.{Layout}
 use Rattle.volume_layout.specs.Layout.{is_data}
@@ -10,7 +10,7 @@ use Rattle.fsd_bytes.specs.declared.refusal.Refusal.TheVariants as Why
 use Rattle.sector_disk.specs.declared.machine.Machine.{Ghosts}
 use Rattle.sector_disk.specs.declared.sector.Sector.TheVariants.{Damaged}
 use Rattle.sector_disk.specs.Calls.{Counts, DiskFaults, Since}
-use Rattle.sector_disk.specs.Image.{IsWorn, open_damage, sector_at}
+use Rattle.sector_disk.specs.Image.{sector_at}
 use Rattle.sector_disk.specs.Machine.{LeavesOnly, Moment, Trusts, Utters}
 use Rattle.fsd_log.specs.Scan.{Placed}
 use Rattle.fsd_files.specs.Disk.{Image}

@@ -1,5 +1,5 @@
 -- What is said of the versions, one after another.
-use Rattle.std.specs.Prelude.{◌≡◌, ⊤, ℕ, suc, ◌≤◌, Bool, List, [], ◌∷◌, ◌++◌, length, map, take, Option, Some, Contains, IsSome, IsTrue, Result, Ok, Err, slice_get}
+use Rattle.std.specs.Prelude.{◌≡◌, ⊤, ℕ, suc, Bool, List, [], ◌∷◌, ◌++◌, length, map, take, Option, Some, Contains, IsSome, IsTrue, Result, Ok, Err, slice_get}
 use Rattle.std.specs.List.{concat}
 use Rattle.fsd_bytes.specs.declared.key.Serial.{Serial}
 use Rattle.fsd_bytes.specs.declared.refusal.Refusal.TheVariants as Why
@@ -21,7 +21,7 @@ use Rattle.volume_contract.specs.State.{Known, Stands, State, volume_of}
 use Rattle.scrub.specs.Walk.{IsWalked}
 use Rattle.fsd_bytes.specs.declared.key.Key.{Key}
 use Rattle.volume_dump.specs.declared.fault.DumpFault.{DumpFault}
-use Rattle.volume_dump.specs.declared.fault.DumpFault.TheVariants.{Refused, Found, Cut, Output, Memory}
+use Rattle.volume_dump.specs.declared.fault.DumpFault.TheVariants.{Refused, Cut, Output, Memory}
 use Rattle.volume_dump.specs.declared.survey.Tally.{Tally}
 use Rattle.volume_dump.specs.Dump.{ReadsAndSays, SaysSome}
 

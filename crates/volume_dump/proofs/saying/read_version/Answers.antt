@@ -1,7 +1,6 @@
 use Rattle.std.proofs.Common.{ℕ, Err, sym, ap, ◌∙◌, subst, arith}
 use Rattle.sector_disk.proofs.CallLaws.{reads_told}
 use Rattle.volume_contract.specs.State.{State, volume_of}
-use Rattle.fsd_bytes.specs.declared.refusal.Refusal.TheVariants as Why
 use Rattle.scrub.proofs.ToldLaws.{told_by}
 use Rattle.volume_dump.specs.declared.fault.DumpFault.{DumpFault}
 use Rattle.volume_dump.specs.Saying.{IsUnread}

@@ -33,9 +33,10 @@ returns-in-Ok-clause-says g c =
     (λ h left worn. wears_leaves V.state V.holds c.args.v.now (IsEntered e) (λ k. said_of c.args.since (volume_of k).files (e ∷ [])) a left worn)
     (λ h left u.
     let back = say.disk.trust.honest h in
-    let worn = read.reads.disk.worn back in
-    (some_then a mid left (wears_some a mid worn) (utters_some _ mid left u),
-      λ k stands entered. utters_behind [] _ a mid left (wears_says a mid worn) (utters_as _ _ mid left (said_one c.args.since (volume_of k).files e bytes chosen (c.deref.ensures.value ∙ read.done back k stands entered)) u))))
+    let worn = read.reads.disk.worn back in (
+      some_then a mid left (wears_some a mid worn) (utters_some _ mid left u),
+      λ k stands entered. utters_behind [] _ a mid left (wears_says a mid worn) (utters_as _ _ mid left (said_one c.args.since (volume_of k).files e bytes chosen (c.deref.ensures.value ∙ read.done back k stands entered)) u),
+    )))
 
 pub returns-in-Ok-clause-done : goal.returns-in-Ok-clause-done
 returns-in-Ok-clause-done g c h k stands entered =

@@ -1,7 +1,6 @@
-use Rattle.std.proofs.Common.{◌≡◌, Bool, List, ℕ, ◌++◌, length, Ok, Err, refl, sym, ap, ◌∙◌, append_assoc}
+use Rattle.std.proofs.Common.{◌≡◌, List, ℕ, ◌++◌, Ok, Err, refl, ap, ◌∙◌}
 use Rattle.std.specs.Prelude.{OnOk, Result}
-use Rattle.fsd_dumps.specs.Dump.{fields_bytes, front_bytes, item_bytes}
-use Rattle.sector_disk.specs.Machine.{Moment, Says}
+use Rattle.fsd_dumps.specs.Dump.{item_bytes}
 use Rattle.volume_dump.specs.declared.fault.DumpFault.{DumpFault}
 use Rattle.volume_dump.specs.Saying.{with_bytes}
 use Rattle.volume_dump.proofs.SaidLaws.{says_after, says_more}

@@ -1,22 +1,20 @@
-use Rattle.std.proofs.Common.{◌≡◌, ℕ, Option, None, Some, refl, sym, ap, ◌∙◌, subst, arith}
-use Rattle.std.specs.Prelude.{IfSome, Result, Err, ⊤}
+use Rattle.std.proofs.Common.{◌≡◌, Option, refl, sym, ap, subst, arith}
+use Rattle.std.specs.Prelude.{Err, ⊤}
 use Rattle.fsd_formats.specs.declared.entry.Entry.{Entry}
 use Rattle.fsd_files.specs.Answers.{entry_after}
 use Rattle.fsd_files.specs.declared.reply.Reply.TheVariants.{Found}
 use Rattle.sector_disk.proofs.CallLaws.{reads_none}
-use Rattle.volume_contract.specs.Healing.{IsMet}
 use Rattle.volume_contract.specs.State.{State, volume_of}
 use Rattle.scrub.specs.Telling.{TellsOn}
 use Rattle.scrub.proofs.LookedLaws.{outside_only}
 use Rattle.scrub.proofs.ToldLaws.{told_by}
 use Rattle.volume_dump.specs.declared.fault.DumpFault.{DumpFault}
-use Rattle.volume_dump.specs.Dump.{FollowsDump, TellsDump}
+use Rattle.volume_dump.specs.Dump.{FollowsDump}
 use Rattle.volume_dump.specs.Saying.{EndsEntries}
 use Rattle.volume_dump.proofs.OneLaws.{volume_told, wears_leaves}
 use Rattle.volume_dump.proofs.RowLaws.{all_said, row_all, row_counted, row_entered, row_fails, row_more, row_reads, row_says, row_unmet, said_none}
 use Rattle.volume_dump.proofs.SaidLaws.{reads_as_says, volume_says_more}
 use Rattle.volume_dump.proofs.ToldLaws.{device_told, follows_told, next_comes, tells_told, undamaged, unsaid_told}
-use Rattle.volume_dump.proofs.saying.say_versions.Given as given
 use Rattle.volume_dump.proofs.saying.say_versions.Goals as goal
 
 pub loop-init : goal.loop-init

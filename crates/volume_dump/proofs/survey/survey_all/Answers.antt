@@ -1,10 +1,8 @@
 use Rattle.std.proofs.Common.{◌≡◌, false, Option, None, sym, ap, ◌∙◌, subst, arith}
-use Rattle.std.specs.Prelude.{IfSome}
 use Rattle.fsd_formats.specs.declared.entry.Entry.{Entry}
 use Rattle.fsd_files.specs.Answers.{entry_after}
 use Rattle.fsd_files.specs.declared.reply.Reply.TheVariants.{Found}
 use Rattle.sector_disk.proofs.Wear.{worn_refl}
-use Rattle.volume_contract.specs.Healing.{IsMet}
 use Rattle.volume_contract.specs.State.{State, volume_of}
 use Rattle.scrub.specs.Looking.{AreDamaged}
 use Rattle.scrub.specs.Telling.{TellsOn}
