@@ -23,7 +23,7 @@ use Rattle.fsd_sound.specs.Mounted.{Mounted}
 use Rattle.volume_contract.specs.State.{Known, Stands, State, volume_of}
 use Rattle.scrub.specs.Looking.{Adds}
 use Rattle.scrub.proofs.LookLaws.{Any, anything, data_both, picks_both, picks_on}
-use Rattle.scrub.proofs.WalkLaws.{walked_all, walked_counted, walked_more, walked_none}
+use Rattle.scrub.proofs.WalkLaws.{walked_all, walked_counted, walked_more}
 use Rattle.volume_dump.specs.declared.survey.Tally.{Tally}
 use Rattle.volume_dump.specs.Surveying.{CountsOne, EndsSurvey, HasSurveyed, IsSurveyed}
 
@@ -44,13 +44,6 @@ one_chosen false e = omega arith
 -- one entry more is one chosen more at most
 pub one_most : (since : Serial) (e : Entry) → length (chosen since (e ∷ [])) ≤ 1
 one_most since e = one_chosen (serial_lt since e.serial) e
-
-pub surveyed_none : (since : Serial) (entries : List Entry) (i : Image) (s : Tally) (found : List (Key × ℕ)) → s ≡ record { chosen = 0; latest = first_serial } → found ≡ [] → HasSurveyed since entries 0 None i i s found
-surveyed_none since entries i s found is none = record {
-  front = [];
-  walked = walked_none entries;
-  surveyed = record { count = ap (λ (t : Tally). t.chosen) is; latest = ap (λ (t : Tally). t.latest) is; picks = none };
-}
 
 module _ (may more_may : ℕ → Bool) (h i j : Image) (first : IsWorn may h i) (second : IsWorn more_may i j) (since : Serial) (front : List Entry) (s : Tally) (found : List (Key × ℕ)) (is : IsSurveyed since front h i s found) where
   -- while the image wears on

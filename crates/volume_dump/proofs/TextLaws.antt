@@ -13,7 +13,6 @@ use Rattle.sector_disk.specs.Machine.{Moment, Says, Utters, Wears}
 use Rattle.sector_disk.proofs.Wear.{worn_trans}
 use Rattle.fsd_files.specs.Files.{Files}
 use Rattle.fsd_runs.specs.Dumps.{chosen, dumped_of, serial_lt}
-use Rattle.volume_contract.specs.State.{Ages}
 use Rattle.volume_dump.specs.Dump.{SaysSome}
 use Rattle.volume_dump.specs.Saying.{items_of, said_of}
 
@@ -72,9 +71,6 @@ utters_some xs a b u = (xs, u)
 
 pub wears_some : (a b : Moment) → Wears a b → SaysSome a b
 wears_some a b worn = ([], wears_utters [] a b worn)
-
-pub some_ages : (a b : Moment) → SaysSome a b → Ages a b
-some_ages a b some = record { image = some.1.image; windows = some.1.windows }
 
 -- all that is said
 pub says_so : (xs : List ℕ) (a b : Moment) → SaysSome a b → b.said ≡ a.said ++ xs → Says xs a b

@@ -1,4 +1,4 @@
-use Rattle.std.proofs.Common.{ℕ, Err, sym, ap, ◌∙◌, subst, arith}
+use Rattle.std.proofs.Common.{ℕ, length, drop, Err, sym, ap, ◌∙◌, subst, arith}
 use Rattle.sector_disk.proofs.CallLaws.{reads_told}
 use Rattle.volume_contract.specs.State.{State, volume_of}
 use Rattle.scrub.proofs.ToldLaws.{told_by}
@@ -17,8 +17,8 @@ returns-in-Ok-read-clause-done g c h k stands entered =
     let long = c.deref_mut.ensures.len in
     let items = c.in-Ok.ensures.len in
     c.truncate.ensures.items
-    ∙ written_front c.in-Ok-read.count c.in-Ok.bytes.len c.read.new.buf _ (omega (arith, most, long)) (omega (arith, most, same))
-    ∙ read_whole (now c.args.m.now).image (now c.read.new.m).image (volume_of k) c.args.e.now entered _ _ c.in-Ok-read.count (omega (arith, long, items)) (read.done h k stands)
+    ∙ written_front c.in-Ok-read.count c.in-Ok.bytes.len c.read.new.buf (drop (length c.read.new.buf) c.in-Ok.bytes.items) (omega (arith, most, long)) (omega (arith, most, same))
+    ∙ read_whole (now c.args.m.now).image (now c.read.new.m).image (volume_of k) c.args.e.now entered c.deref_mut.result.now c.read.new.buf c.in-Ok-read.count (omega (arith, long, items)) (read.done h k stands)
 
 pub returns-in-Err-clause-order : goal.returns-in-Err-clause-order
 returns-in-Err-clause-order g c = follows_told ℕ c.in-Err.why c.fault_of.result c.fault_of.ensures (g.V.Files.state c.args.v.now) c.in-Err.ensures.order.follows
@@ -46,7 +46,7 @@ returns-in-Err-clause-done g c h k stands entered =
     let now = g.M.Machine.now in
     let read = c.in-Err.ensures in
     subst (λ (fault : DumpFault). IsUnread c.args.e.now (now c.read.new.m).image fault) (sym c.fault_of.ensures)
-    (read_not (now c.args.m.now).image (now c.read.new.m).image (volume_of k) c.args.e.now entered _ _ c.in-Err.why (read.done h k stands))
+    (read_not (now c.args.m.now).image (now c.read.new.m).image (volume_of k) c.args.e.now entered c.deref_mut.result.now c.read.new.buf c.in-Err.why (read.done h k stands))
 
 pub returns-in-Err-clause-unsaid : goal.returns-in-Err-clause-unsaid
 returns-in-Err-clause-unsaid g c = unsaid_told ℕ c.in-Err.why c.fault_of.result c.fault_of.ensures
