@@ -1,9 +1,10 @@
--- What puts and lists say and do, in words of files.
+-- What puts, gets and lists say and do, in words of files; and histories of these, of dumps and of restores.
 use Rattle.std.proofs.Common.{◌≡◌, ◌⊎◌, inl, inr, ℕ, zero, suc, Bool, true, false, List, [], ◌∷◌, ◌++◌, length, take, filter, Option, Some, None, refl, sym, ap, subst, ◌∙◌, arith}
 use Rattle.std.specs.Prelude.{nat_lt, if◌then◌else◌}
 use Rattle.std.specs.List.{fold}
 use Rattle.std.specs.FinMap.{find}
 use Rattle.std.proofs.lemmas.List.{append-nil, take_all}
+use Rattle.std.proofs.Math.Seq.{take-nil}
 use Rattle.fsd_bytes.specs.declared.key.Key.{Key}
 use Rattle.fsd_bytes.specs.declared.pattern.Pattern.{Pattern}
 use Rattle.fsd_bytes.specs.declared.pattern.Pattern.TheVariants.{Prefix}
@@ -14,7 +15,6 @@ use Rattle.fsd_files.specs.Answers.{got}
 use Rattle.fsd_files.specs.Disk.{Image}
 use Rattle.fsd_files.specs.Files.{Change, File, Files, step}
 use Rattle.fsd_files.specs.declared.reply.Reply.{Reply}
-use Rattle.fsd_files.specs.declared.reply.Reply.TheVariants as Said
 use Rattle.fsd_files.specs.Volume.{Volume}
 use Rattle.fsd_texts.specs.declared.command.Command.{Command}
 use Rattle.fsd_texts.specs.declared.command.Command.TheVariants as Word
@@ -30,6 +30,7 @@ use Rattle.fsd_runs.specs.Sessions.{Meeting, session_over}
 use Rattle.cfs_program.specs.Drill.{list_text}
 use Rattle.cfs_program.specs.Program.{input_for}
 use Rattle.cfs_program.proofs.LifeLaws.{IsPutReply, all_versions, answered_once, list_is, listing, put_reply, reply_to, turn_for}
+use Rattle.fsd_history.proofs.DumpLaws.{dump_ends, dump_stops, restore_ends, restore_stops}
 use Rattle.fsd_history.specs.History.{Ends, EndsPlainly, HasShown, Life, Meets, PlainlySo, Plays, SaysVersion, Stops, StopsPlainly, Tells, TellsPlainly, TellsSo, turns_in}
 
 -- ---- one command
@@ -44,13 +45,13 @@ module _ (command : Command) (v : Volume) where
 -- ---- a list
 
 module _ (input : List ℕ) (pattern : Pattern) where
-  list_turns : (cut : Cut) → MayCut (Asks.One (Word.List pattern)) cut → (mets : List Meeting) (v : Volume) → length mets ≡ length (errand_in (Asks.One (Word.List pattern)) input cut).commands
-      → (said_in (turns_of (errand_in (Asks.One (Word.List pattern)) input cut) mets (session_over v)) ≡ listing (filter (λ e. fits pattern e.key.name) v.entries))
-      × (changes_in (turns_of (errand_in (Asks.One (Word.List pattern)) input cut) mets (session_over v)) ≡ [])
+  list_turns : (cut : Cut) → MayCut (Asks.One (Word.List pattern)) cut → (mets : List Meeting) (v : Volume) → length mets ≡ length (errand_in (Asks.One (Word.List pattern)) input cut v).commands
+      → (said_in (turns_of (errand_in (Asks.One (Word.List pattern)) input cut v) mets (session_over v)) ≡ listing (filter (λ e. fits pattern e.key.name) v.entries))
+      × (changes_in (turns_of (errand_in (Asks.One (Word.List pattern)) input cut v) mets (session_over v)) ≡ [])
   list_turns None may mets v through =
       let once = answered_once (Word.List pattern) v mets through in
       (ap said_in once.1.turns ∙ append-nil (listing (filter (λ e. fits pattern e.key.name) v.entries)), ap changes_in once.1.turns)
-  list_turns (Some (k, why)) may mets v through = absurd may
+  list_turns (Some x) may mets v through = absurd may
 
 pub pattern_says : (Shown : Image → Type 0) (pattern : Pattern) (input said : List ℕ) (s next : Files) (status : ℕ) → Ends Shown (Asks.One (Word.List pattern)) input s said status next → (pattern ≡ Prefix [] → said ≡ list_text s) × (next ≡ s)
 pattern_says Shown pattern input said s next status x =
@@ -75,8 +76,8 @@ record IsGotten (key : Key) (v : Volume) (turns : List Turn) (status : ℕ) : Ty
   status_is : status ≡ reply_status (got key damaged (find key_cmp key v.files))
   changes : changes_in turns ≡ []
 
-get_turns : (key : Key) (input : List ℕ) (cut : Cut) → MayCut (Asks.One (Word.Get key)) cut → (mets : List Meeting) (v : Volume) → length mets ≡ length (errand_in (Asks.One (Word.Get key)) input cut).commands
-    → IsGotten key v (turns_of (errand_in (Asks.One (Word.Get key)) input cut) mets (session_over v)) ((errand_in (Asks.One (Word.Get key)) input cut).ends (answered mets (session_over v) (errand_in (Asks.One (Word.Get key)) input cut).commands)).status
+get_turns : (key : Key) (input : List ℕ) (cut : Cut) → MayCut (Asks.One (Word.Get key)) cut → (mets : List Meeting) (v : Volume) → length mets ≡ length (errand_in (Asks.One (Word.Get key)) input cut v).commands
+    → IsGotten key v (turns_of (errand_in (Asks.One (Word.Get key)) input cut v) mets (session_over v)) ((errand_in (Asks.One (Word.Get key)) input cut v).ends (answered mets (session_over v) (errand_in (Asks.One (Word.Get key)) input cut v).commands)).status
 get_turns key input None may mets v through =
     let once = answered_once (Word.Get key) v mets through in
     record {
@@ -85,7 +86,7 @@ get_turns key input None may mets v through =
       status_is = once.1.status;
       changes = ap changes_in once.1.turns;
     }
-get_turns key input (Some (k, why)) may mets v through = absurd may
+get_turns key input (Some x) may mets v through = absurd may
 
 pub get_says : (Shown : Image → Type 0) (key : Key) (input said : List ℕ) (s next : Files) (status : ℕ) → Ends Shown (Asks.One (Word.Get key)) input s said status next → SaysVersion key (find key_cmp key s) said status × (next ≡ s)
 get_says Shown key input said s next status x =
@@ -141,20 +142,20 @@ module _ (name : List ℕ) (keep : Option ℕ) (input : List ℕ) where
       ∙ append-nil (changes_of the_put (reply_to the_put v met))
       ∙ changes_zero (reply_to the_put v met) (put_reply met.met name input keep v) (sym once.1.status ∙ sym one)
 
-  put_refuses : (cut : Cut) → MayCut (Asks.Put name keep) cut → (mets : List Meeting) (v : Volume) → length mets ≡ length (errand_in (Asks.Put name keep) input cut).commands
-      → 1 ≡ ((errand_in (Asks.Put name keep) input cut).ends (answered mets (session_over v) (errand_in (Asks.Put name keep) input cut).commands)).status
-      → changes_in (turns_of (errand_in (Asks.Put name keep) input cut) mets (session_over v)) ≡ []
+  put_refuses : (cut : Cut) → MayCut (Asks.Put name keep) cut → (mets : List Meeting) (v : Volume) → length mets ≡ length (errand_in (Asks.Put name keep) input cut v).commands
+      → 1 ≡ ((errand_in (Asks.Put name keep) input cut v).ends (answered mets (session_over v) (errand_in (Asks.Put name keep) input cut v).commands)).status
+      → changes_in (turns_of (errand_in (Asks.Put name keep) input cut v) mets (session_over v)) ≡ []
   put_refuses None may mets v through one = put_didnt (nat_lt max_input (length input)) mets v through one
-  put_refuses (Some (k, why)) may mets v through one = absurd may
+  put_refuses (Some x) may mets v through one = absurd may
 
   pub put_refused : (Shown : Image → Type 0) (said : List ℕ) (s next : Files) (status : ℕ) → Ends Shown (Asks.Put name keep) input s said status next → status ≡ 1 → next ≡ s
   put_refused Shown said s next status x one = let p = x.plays in x.files ∙ ap (fold step s) (put_refuses p.cut p.may p.mets p.volume x.through (sym one ∙ x.ends))
 
-  put_ends : (cut : Cut) → MayCut (Asks.Put name keep) cut → (mets : List Meeting) (v : Volume) → length mets ≡ length (errand_in (Asks.Put name keep) input cut).commands
-      → 0 ≡ ((errand_in (Asks.Put name keep) input cut).ends (answered mets (session_over v) (errand_in (Asks.Put name keep) input cut).commands)).status
-      → changes_in (turns_of (errand_in (Asks.Put name keep) input cut) mets (session_over v)) ≡ the_change ∷ []
+  put_ends : (cut : Cut) → MayCut (Asks.Put name keep) cut → (mets : List Meeting) (v : Volume) → length mets ≡ length (errand_in (Asks.Put name keep) input cut v).commands
+      → 0 ≡ ((errand_in (Asks.Put name keep) input cut v).ends (answered mets (session_over v) (errand_in (Asks.Put name keep) input cut v).commands)).status
+      → changes_in (turns_of (errand_in (Asks.Put name keep) input cut v) mets (session_over v)) ≡ the_change ∷ []
   put_ends None may mets v through nought = put_did (nat_lt max_input (length input)) mets v through nought
-  put_ends (Some (k, why)) may mets v through nought = absurd may
+  put_ends (Some x) may mets v through nought = absurd may
 
   pub put_found : (Shown : Image → Type 0) (said : List ℕ) (s next : Files) → Ends Shown (Asks.Put name keep) input s said 0 next → next ≡ step s the_change
   put_found Shown said s next x = let p = x.plays in x.files ∙ ap (fold step s) (put_ends p.cut p.may p.mets p.volume x.through x.ends)
@@ -182,10 +183,10 @@ module _ (name : List ℕ) (keep : Option ℕ) (input : List ℕ) where
           either (inl none) = inl (first_turn turns (turn_for the_put v met) whole is ∙ none)
           either (inr one) = inr (first_turn turns (turn_for the_put v met) whole is ∙ one)
 
-  put_begun : (Shown : Image → Type 0) (i : Image) (cut : Cut) → MayCut (Asks.Put name keep) cut → (mets : List Meeting) (v : Volume) → Meets Shown i (session_over v) mets (errand_in (Asks.Put name keep) input cut).commands
-      → (whole : ℕ) → NoneOrOne (changes_in (take (suc whole) (turns_of (errand_in (Asks.Put name keep) input cut) mets (session_over v))))
+  put_begun : (Shown : Image → Type 0) (i : Image) (cut : Cut) → MayCut (Asks.Put name keep) cut → (mets : List Meeting) (v : Volume) → Meets Shown i (session_over v) mets (errand_in (Asks.Put name keep) input cut v).commands
+      → (whole : ℕ) → NoneOrOne (changes_in (take (suc whole) (turns_of (errand_in (Asks.Put name keep) input cut v) mets (session_over v))))
   put_begun Shown i None may mets v meets whole = put_may Shown i (nat_lt max_input (length input)) mets v meets whole
-  put_begun Shown i (Some (k, why)) may mets v meets whole = absurd may
+  put_begun Shown i (Some x) may mets v meets whole = absurd may
 
   taken : (found : ℕ) (cs : List Change) → NoneOrOne cs → NoneOrOne (take found cs)
   taken zero cs is = inl refl
@@ -235,11 +236,11 @@ module _ {D : Type 0} (M : Ghosts D) (name : List ℕ) (keep : Option ℕ) where
       by (inl none) = inl (subst (λ (s : Files). Says y s) none says)
       by (inr one) = inr (subst (λ (s : Files). Says y s) one says)
 
--- ---- histories of puts, gets and lists
+-- ---- histories of puts, gets, lists, dumps and restores
 
 module _ (command : Command) (still : (reply : Reply) → changes_of command reply ≡ []) (input : List ℕ) where
-  still_begun : (Shown : Image → Type 0) (i : Image) (cut : Cut) → MayCut (Asks.One command) cut → (mets : List Meeting) (v : Volume) → Meets Shown i (session_over v) mets (errand_in (Asks.One command) input cut).commands
-      → (whole : ℕ) → changes_in (take (suc whole) (turns_of (errand_in (Asks.One command) input cut) mets (session_over v))) ≡ []
+  still_begun : (Shown : Image → Type 0) (i : Image) (cut : Cut) → MayCut (Asks.One command) cut → (mets : List Meeting) (v : Volume) → Meets Shown i (session_over v) mets (errand_in (Asks.One command) input cut v).commands
+      → (whole : ℕ) → changes_in (take (suc whole) (turns_of (errand_in (Asks.One command) input cut v) mets (session_over v))) ≡ []
   still_begun Shown i None may mets v meets whole = by (turns_are command v Shown i mets meets)
     where
       turns : List Turn
@@ -251,28 +252,28 @@ module _ (command : Command) (still : (reply : Reply) → changes_of command rep
       by : (turns ≡ blank ∷ []) ⊎ ((met : Meeting) × (turns ≡ turn_for command v met ∷ [])) → changes_in (take (suc whole) turns) ≡ []
       by (inl is) = one_taken blank is refl
       by (inr (met, is)) = one_taken (turn_for command v met) is (still (reply_to command v met))
-  still_begun Shown i (Some (k, why)) may mets v meets whole = absurd may
+  still_begun Shown i (Some x) may mets v meets whole = absurd may
 
   still_stops : (Shown : Image → Type 0) (said : List ℕ) (s next : Files) → Stops Shown (Asks.One command) input s said next → next ≡ s
   still_stops Shown said s next (inl (fault, is)) = is
   still_stops Shown said s next (inr x) =
-      x.files ∙ ap (λ (cs : List Change). fold step s (take x.found cs)) (still_begun Shown x.plays.image x.plays.cut x.plays.may x.plays.mets x.plays.volume x.plays.meets x.whole) ∙ ap (fold step s) (taken_none x.found)
-    where
-      taken_none : (n : ℕ) → ◌≡◌ {A = List Change} (take n []) []
-      taken_none zero = refl
-      taken_none (suc n) = refl
+      x.files ∙ ap (λ (cs : List Change). fold step s (take x.found cs)) (still_begun Shown x.plays.image x.plays.cut x.plays.may x.plays.mets x.plays.volume x.plays.meets x.whole) ∙ ap (fold step s) (take-nil x.found)
 
 ends_plainly : (Shown : Image → Type 0) (request : Request) (input said : List ℕ) (s next : Files) (status : ℕ) → Ends Shown request (input_for request input) s said status next → EndsPlainly request input s said status next
 ends_plainly Shown (Asks.Put name keep) input said s next status x =
     (λ nought. put_found name keep input Shown said s next (subst (λ (n : ℕ). Ends Shown (Asks.Put name keep) input s said n next) nought x), put_refused name keep input Shown said s next status x)
 ends_plainly Shown (Asks.One (Word.Get key)) input said s next status x = get_says Shown key [] said s next status x
 ends_plainly Shown (Asks.One (Word.List pattern)) input said s next status x = pattern_says Shown pattern [] said s next status x
+ends_plainly Shown (Asks.Dump since) input said s next status x = dump_ends Shown since said s next status x
+ends_plainly Shown Asks.Restore input said s next status x = restore_ends Shown input said s next status x
 ends_plainly Shown request input said s next status x = tt
 
 stops_plainly : (Shown : Image → Type 0) (request : Request) (input said : List ℕ) (s next : Files) → Stops Shown request (input_for request input) s said next → StopsPlainly request input s next
 stops_plainly Shown (Asks.Put name keep) input said s next x = put_stops name keep input Shown said s next x
 stops_plainly Shown (Asks.One (Word.Get key)) input said s next x = still_stops (Word.Get key) (λ reply. refl) [] Shown said s next x
 stops_plainly Shown (Asks.One (Word.List pattern)) input said s next x = still_stops (Word.List pattern) (λ reply. refl) [] Shown said s next x
+stops_plainly Shown (Asks.Dump since) input said s next x = dump_stops Shown since said s next x
+stops_plainly Shown Asks.Restore input said s next x = restore_stops Shown input said s next x
 stops_plainly Shown request input said s next x = tt
 
 module _ {D : Type 0} (M : Ghosts D) where
