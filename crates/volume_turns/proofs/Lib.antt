@@ -27,6 +27,7 @@ pub mod OnceLaws
 pub mod OneLaws
 pub mod OrderLaws
 pub mod OtherLaws
+pub mod PlainLaws
 pub mod PutLaws
 pub mod QuietLaws
 pub mod ReadLaws
@@ -50,5 +51,6 @@ pub mod TakingLaws
 pub mod ToldLaws
 pub mod TurnLaws
 pub mod UpgradeLaws
+pub mod UtterLaws
 pub mod WholeLaws
 pub mod WornLaws
