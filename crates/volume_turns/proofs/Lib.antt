@@ -10,6 +10,7 @@ pub mod CallWornLaws
 pub mod CauseLaws
 pub mod CountLaws
 pub mod DidLaws
+pub mod DumpEndLaws
 pub mod EachLaws
 pub mod GenerateLaws
 pub mod GetLaws
