@@ -11,6 +11,7 @@ pub mod CauseLaws
 pub mod CountLaws
 pub mod DidLaws
 pub mod DumpEndLaws
+pub mod DumpLaws
 pub mod EachLaws
 pub mod GenerateLaws
 pub mod GetLaws
