@@ -111,10 +111,10 @@ none_said : {D : Type 0} (M : Ghosts D) (d b : D) (status gives : ℕ) → b ≡
 none_said {D} M d b status gives same is end = subst (λ (n : ℕ). SaysAtEnd M [] gives d b n) (sym is) (subst (λ (x : D). SaysAtEnd M [] gives d x gives) (sym same) end)
 
 module _ {D : Type 0} (M : Ghosts D) (R : Moment → Moment → Type 0) (a d : D) where
-  no_fault : ReadsAndSays M None false R a d → FaultTold {T = Unit {0}} (M.report a) (M.report d) (Ok tt)
+  pub no_fault : ReadsAndSays M None false R a d → FaultTold {T = Unit {0}} (M.report a) (M.report d) (Ok tt)
   no_fault x = record { sectors = x.sectors; disk = x.faults; input = x.input; later = let same = x.output in omega (arith, same); output = x.output }
 
-  a_fault : (why : Fault) → ReadsAndSays M (device_told why) false R a d → FaultTold {T = Unit {0}} (M.report a) (M.report d) (Err (Stopped why))
+  pub a_fault : (why : Fault) → ReadsAndSays M (device_told why) false R a d → FaultTold {T = Unit {0}} (M.report a) (M.report d) (Err (Stopped why))
   a_fault why x = record { sectors = x.sectors; disk = x.faults; input = x.input; later = let same = x.output in omega (arith, same); output = x.output }
 
 module _ {D : Type 0} (M : Ghosts D) (s : State) (up : s.down ≡ None) (only : (x : D) (c : Moment) → M.honest x → M.left_since x (M.moment x) c → c ≡ M.now x) (R : Moment → Moment → Type 0) (a d b : D) (status : ℕ) where

@@ -12,6 +12,7 @@ pub mod CountLaws
 pub mod DidLaws
 pub mod DumpEndLaws
 pub mod DumpLaws
+pub mod DumpRunLaws
 pub mod EachLaws
 pub mod GenerateLaws
 pub mod GetLaws

@@ -1,5 +1,5 @@
 use Rattle.volume_turns.proofs.DumpEndLaws.{keeps_end}
-use Rattle.volume_turns.proofs.DumpLaws.{whole_before}
+use Rattle.volume_turns.proofs.DumpRunLaws.{dump_run}
 use Rattle.volume_turns.proofs.dumping.dump_on.Goals as goal
 
 pub returns-in-Ok-clause-ends : goal.returns-in-Ok-clause-ends
