@@ -129,10 +129,10 @@ module _ {S D : Type 0} (state : S → State) (has : S → Mounted → List Plac
   stays_run : LeavesOnly M.moment M.left_since a m (StaysSoundFor k (M.now a))
   stays_run = leaves_more M.moment M.left_since a m (Wears (M.now a)) (StaysSoundFor k (M.now a)) stays (reads.any_moment back)
 
-  first_stops : (turns : List Turn) → StopsOnly M a m (InRun k (forced_of k) turns (M.now a))
+  pub first_stops : (turns : List Turn) → StopsOnly M a m (InRun k (forced_of k) turns (M.now a))
   first_stops turns = stays_stops M k (forced_of k) a m at_a at_m (reads.since back) stays_run on turns
 
-  held_m : IsHeld M m (λ c. IsSound k.mounted.volume.layout k.windows k.changes (forced_of k) c.image)
+  pub held_m : IsHeld M m (λ c. IsSound k.mounted.volume.layout k.windows k.changes (forced_of k) c.image)
   held_m = (stays_held M k (forced_of k) a m at_a at_m (reads.since back) stays_run on).each
 
   -- of an image as it may have worn since

@@ -33,11 +33,12 @@ use Rattle.volume_dump.specs.declared.fault.DumpFault.{DumpFault}
 use Rattle.volume_dump.specs.declared.fault.DumpFault.TheVariants as Faults
 use Rattle.volume_turns.specs.declared.turns.Halt.TheVariants.{Fault as Stopped}
 use Rattle.volume_turns.specs.Dumping.{EndsBehind, SaysAtEnd, damages_text}
+use Rattle.volume_turns.specs.Line.{EndsWith, is_unsaid}
 use Rattle.volume_turns.specs.Turns.{EndsAtOnce, FaultTold, InRun, OnDisk, SaysAll, Undone}
 use Rattle.volume_turns.specs.Whole.{Halted, RunsOut, SaysOut, UnderWay}
 use Rattle.volume_turns.proofs.CountLaws.{told_more}
 use Rattle.volume_turns.proofs.DumpEndLaws.{a_fault}
-use Rattle.volume_turns.proofs.DumpLaws.{dump_unsaid, held_said, picks_before, plain_done, plain_stops, stands_synced, whole_before}
+use Rattle.volume_turns.proofs.DumpLaws.{dump_unsaid, first_stops, held_m, held_said, picks_before, plain_done, plain_stops, stands_synced, whole_before}
 use Rattle.volume_turns.proofs.HaltLaws.{broken_ends, broken_moments}
 use Rattle.volume_turns.proofs.LineLaws.{at_once_ends}
 use Rattle.volume_turns.proofs.PlainLaws.{ArePlain, plain_halts, plain_map, plain_take}
@@ -75,6 +76,11 @@ utters_begun front old left new said some begun =
     let u = some.1 in
     let part = take u.heard some.0 in
     utters_by front part begun.0 old left (append_cancel_left old.said front (part ++ begun.0) (sym said ∙ begun.1 ∙ ap (λ (x : List ℕ). x ++ begun.0) u.said ∙ append_assoc old.said part begun.0)) (record { image = u.image; windows = u.windows }) u.said
+
+-- nothing of a text is said by a sync
+wears_run : {D : Type 0} (M : Ghosts D) (a m : D) → KeepsSynced M a m → M.honest m → (bytes : List ℕ) → LeavesOnly M.moment M.left_since a m (Utters bytes (M.now a))
+wears_run M a m reads back bytes =
+    leaves_more M.moment M.left_since a m (Wears (M.now a)) (Utters bytes (M.now a)) (λ c w. utters_by bytes [] bytes (M.now a) c refl (record { image = w.image; windows = w.windows }) (w.said ∙ sym (append-nil (M.now a).said))) (reads.any_moment back)
 
 module _ {S D : Type 0} (state : S → State) (has : S → Mounted → List Placed → Type 0) (M : Ghosts D) (v : S) (since : Serial) (fault : Option ℕ) (m d : D) (disk : ReadsAndSays M fault false (LeavesDumped state has v since) m d) (honest : M.honest d) (front : List ℕ) (said : (M.now d).said ≡ (M.now m).said ++ front) where
   each_both : LeavesOnly M.moment M.left_since m d (λ c. SaysSome (M.now m) c × IsBegun c.said (M.now d).said)
@@ -288,7 +294,7 @@ module _ {S D : Type 0} (state : S → State) (has : S → Mounted → List Plac
     -- the moments of the whole run, where nothing of the dump is said
     fault_run : (M.now d).said ≡ (M.now m).said → LeavesOnly M.moment M.left_since a b (Utters (fault_text why) (M.now a))
     fault_run same = then_on M.moment M.left_since a m b (Utters (fault_text why) (M.now a))
-        (leaves_more M.moment M.left_since a m (Wears (M.now a)) (Utters (fault_text why) (M.now a)) (λ c w. utters_by (fault_text why) [] (fault_text why) (M.now a) c refl (record { image = w.image; windows = w.windows }) (w.said ∙ sym (append-nil (M.now a).said))) (reads.any_moment back))
+        (wears_run M a m reads back (fault_text why))
         (leaves_more M.moment M.left_since m b (Utters (fault_text why) (M.now m)) (Utters (fault_text why) (M.now a)) (λ c u. utters_behind [] (fault_text why) (M.now a) (M.now m) c (wears_say (M.now a) (M.now m) worn) u)
           (run_behind fault d b disk (fault_text why) (fault_status why) status end honest [] (quiet_at same)))
 
@@ -315,3 +321,41 @@ module _ {S D : Type 0} (state : S → State) (has : S → Mounted → List Plac
     dump_out (Err Faults.Memory) disk done end = fault_out None d b disk Ends.Memory tt (a_fault M (LeavesDumped state has v since) m d Ends.Memory disk) status end honest (done (end.says.trust.honest honest))
     dump_out (Err (Faults.Refused (Why.Device s))) disk done end = fault_out (Some s) d b disk (Ends.Device s) tt (a_fault M (LeavesDumped state has v since) m d (Ends.Device s) disk) status end honest (done (end.says.trust.honest honest))
     dump_out (Err (Faults.Refused why)) disk done end = absurd (done (end.says.trust.honest honest))
+
+-- ---- where the sync in front of it fails
+
+module _ {S D : Type 0} (state : S → State) (has : S → Mounted → List Placed → Type 0) (M : Ghosts D) (k : Known) (v : S) (a m : D)
+    (wears : (old new : Moment) → AreShort old.windows → Ages old new → Stands state has v k old → Stands state has v k new) (stands : Stands state has v k (M.now a)) (on : OnDisk M k (forced_of k) a) (short : (x : D) → M.honest x → AreShort (M.now x).windows) (timed : (x : D) → M.honest x → IsTimed M x)
+    (reads : KeepsSynced M a m) (back : M.honest m) (none : (volume_of k).unforced ≡ 0) (why : Fault) (once : EndsAtOnce why) (told : FaultTold {T = Unit {0}} (M.report a) (M.report m) (Err (Stopped why))) (input rest : List ℕ) (since : Serial)
+    (b : D) (status : ℕ) (says : LeavesDisk M false (is_unsaid status) (Utters (fault_text why)) m b) (honest : M.honest b) (ended : EndsWith why (M.now m) (M.now b) status) where
+  abbrev all_turns : List Turn
+  all_turns = map said_turn (dump_of since (volume_of k))
+
+  worn_m : Wears (M.now a) (M.now m)
+  worn_m = reads.worn back
+
+  stops_m : StopsOnly M a m (InRun k (forced_of k) all_turns (M.now a))
+  stops_m = first_stops state has M k v a m wears stands on short timed reads back all_turns
+
+  halted_m : Halted M k why all_turns a m
+  halted_m = plain_halts k none all_turns (plain_parts (dump_of since (volume_of k))) M why a m (timed m back) worn_m.windows 0 refl (worn_m.said ∙ sym (append-nil (M.now a).said)) (held_m state has M k v a m wears stands on short timed reads back)
+
+  line_run : LeavesOnly M.moment M.left_since a b (Utters (fault_text why) (M.now a))
+  line_run = then_on M.moment M.left_since a m b (Utters (fault_text why) (M.now a)) (wears_run M a m reads back (fault_text why))
+      (leaves_more M.moment M.left_since m b (Utters (fault_text why) (M.now m)) (Utters (fault_text why) (M.now a)) (λ c u. utters_behind [] (fault_text why) (M.now a) (M.now m) c (wears_say (M.now a) (M.now m) worn_m) u) (says.any_moment honest))
+
+  pub unsynced_out : RunsOut M (Dump since) input rest (M.report a) k a b status
+  unsynced_out = record {
+    cut = None;
+    may = tt;
+    cause = tt;
+    finishes = record {
+      mets = [];
+      ahead = tt;
+      goes = λ t le. tt;
+      moments = broken_moments M (Dump since) (M.report a) k all_turns a m b stops_m why halted_m (short m back) stands.ends (timed m back) (timed b honest) once told status says honest ended;
+      ends = inr (broken_ends M (Dump since) (M.report a) k all_turns a m b stops_m why halted_m (short m back) stands.ends (timed m back) (timed b honest) once told status says honest ended);
+    };
+    rooted = tt;
+    so = dump_unsaid since (M.left_since b (M.moment a)) (M.now a).said (volume_of k) (M.now a).image (λ c left. let u = line_run.each c left in (take u.heard (fault_text why), (why, u.heard, at_once_ends why once, refl), u.said));
+  }
