@@ -152,7 +152,7 @@ module _ {S D : Type 0} (state : S → State) (has : S → Mounted → List Plac
     said_stops : (turns : List Turn) → ArePlain turns → (rest : List ℕ) → said_in turns ≡ bytes ++ rest → StopsOnly M m b (InRun k (forced_of k) turns (M.now a))
     said_stops turns plain rest is = stops_saying M m b bytes (λ i. IsSound k.mounted.volume.layout k.windows k.changes (forced_of k) i) at_m at_b since run held_m (λ i sound w. mounted_sound k.mounted k.windows k.changes (forced_of k) i (aged_to i w)) (InRun k (forced_of k) turns (M.now a))
         (λ left sound windows heard said. in_plain k none turns plain (M.now a) left (windows ∙ worn.windows) sound (length (take heard bytes))
-          (said ∙ ap (λ (x : List ℕ). x ++ take heard bytes) worn.said ∙ ap (λ (x : List ℕ). (M.now a).said ++ x) (sym (ap (take (length (take heard bytes))) is ∙ begun bytes rest heard))))
+        (said ∙ ap (λ (x : List ℕ). x ++ take heard bytes) worn.said ∙ ap (λ (x : List ℕ). (M.now a).said ++ x) (sym (ap (take (length (take heard bytes))) is ∙ begun bytes rest heard))))
 
     pub plain_stops : (turns : List Turn) → ArePlain turns → (rest : List ℕ) → said_in turns ≡ bytes ++ rest → StopsOnly M a b (InRun k (forced_of k) turns (M.now a))
     plain_stops turns plain rest is = then_on M.moment (stops M) a m b (InRun k (forced_of k) turns (M.now a)) (first_stops turns) (said_stops turns plain rest is)

@@ -235,8 +235,14 @@ module _ {S D : Type 0} (state : S → State) (has : S → Mounted → List Plac
             ends = by (end.ends honest) run;
           };
           rooted = tt;
-          so = (x.some, ((M.now d).image, record { moment = M.now d; passed = end.says.since honest (M.moment a) (M.now d) (let first = (reads.any_moment back).later in let then = (disk.any_moment honest_d).later in omega (arith, first, then)) (passed_d fault d disk honest_d); image = refl; so_far = x.quiet ∙ worn.said },
-            picks_before (open_damage (M.now a).windows) (M.now a).image (M.now m).image (M.now d).image worn.image (all_data (chosen since (volume_of k).entries)) found x.finds));
+          so = (
+            x.some,
+            (
+              (M.now d).image,
+              record { moment = M.now d; passed = end.says.since honest (M.moment a) (M.now d) (let first = (reads.any_moment back).later in let then = (disk.any_moment honest_d).later in omega (arith, first, then)) (passed_d fault d disk honest_d); image = refl; so_far = x.quiet ∙ worn.said },
+              picks_before (open_damage (M.now a).windows) (M.now a).image (M.now m).image (M.now d).image worn.image (all_data (chosen since (volume_of k).entries)) found x.finds,
+            ),
+          );
         }
       where
         by : (status ≡ 6) ⊎ ((status ≡ gives) × SaysAll bytes (M.now d) (M.now b)) → LeavesOnly M.moment M.left_since m b (Utters bytes (M.now m))
@@ -296,7 +302,7 @@ module _ {S D : Type 0} (state : S → State) (has : S → Mounted → List Plac
     fault_run same = then_on M.moment M.left_since a m b (Utters (fault_text why) (M.now a))
         (wears_run M a m reads back (fault_text why))
         (leaves_more M.moment M.left_since m b (Utters (fault_text why) (M.now m)) (Utters (fault_text why) (M.now a)) (λ c u. utters_behind [] (fault_text why) (M.now a) (M.now m) c (wears_say (M.now a) (M.now m) worn) u)
-          (run_behind fault d b disk (fault_text why) (fault_status why) status end honest [] (quiet_at same)))
+        (run_behind fault d b disk (fault_text why) (fault_status why) status end honest [] (quiet_at same)))
 
     only_fault : (M.now d).said ≡ (M.now m).said → (c : Moment) → M.left_since b (M.moment a) c → (part : List ℕ) × SaysFault part × (c.said ≡ (M.now a).said ++ part)
     only_fault same c left = let u = (fault_run same).each c left in (take u.heard (fault_text why), (why, u.heard, at_once_ends why once, refl), u.said)

@@ -49,12 +49,7 @@ fn end_refused<M: Machine>(m: &mut M, why: Refusal) -> u8
 }
 
 // Says a dump, and what stands behind it.
-fn dump_and_end<M: Machine, V: Files<M> + Drop>(
-    alloc: Global,
-    v: V,
-    m: &mut M,
-    since: Serial,
-) -> u8
+fn dump_and_end<M: Machine, V: Files<M> + Drop>(alloc: Global, v: V, m: &mut M, since: Serial) -> u8
     requires room { (V.state v).layout.sectors ≤ (M.report m.old).sectors }
     ensures { DumpsAndEnds V.state V.holds M.Machine since v m.old m.new result }
 {
