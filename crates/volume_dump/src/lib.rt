@@ -1,8 +1,11 @@
 //! Dumps over the contract of a volume alone: its versions with their bytes, said as one text.
 #![tactic(auto)]
 
-mod dumping;
 mod fault;
+mod saying;
+mod survey;
+mod whole;
 
-pub use dumping::dump;
+pub use dump_text::{DumpRead, Item, read_dump};
 pub use fault::DumpFault;
+pub use whole::dump;
