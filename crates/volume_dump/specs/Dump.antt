@@ -56,6 +56,10 @@ is_unsaid_dump other = false
 abbrev pub SaysSome : Moment → Moment → Type 0
 SaysSome old left = (bytes : List ℕ) × Utters bytes old left
 
+-- the one text begins with the other
+abbrev pub IsBegun : List ℕ → List ℕ → Type 0
+IsBegun front whole = (more : List ℕ) × (whole ≡ front ++ more)
+
 -- A call that reads the disk and says, by the place of the fault of the disk that it tells, and by whether it tells one of
 -- the output; of which a stop leaves this.
 pub record ReadsAndSays {D : Type 0} (M : Ghosts D) (fault : Option ℕ) (unsaid : Bool) (R : Moment → Moment → Type 0) (old new : D) : Type 0 where
@@ -68,6 +72,8 @@ pub record ReadsAndSays {D : Type 0} (M : Ghosts D) (fault : Option ℕ) (unsaid
   pub exit : M.honest new → R (M.now old) (M.now new)
   pub since : M.honest new → Since M old new
   pub any_moment : M.honest new → LeavesOnly M.moment M.left_since old new (R (M.now old))
+  -- what was said at a moment is a beginning of what is said at the exit
+  pub said_first : IsFalse unsaid → M.honest new → LeavesOnly M.moment M.left_since old new (λ left. IsBegun left.said (M.now new).said)
 
 -- What it tells of any image, by the layout of its volume alone.
 abbrev pub TellsDump : {T : Type 0} → Layout → Image → Result T DumpFault → Type 0
