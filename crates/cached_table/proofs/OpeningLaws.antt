@@ -53,6 +53,7 @@ use Rattle.cached_table.specs.contracts.homes.HomesPageSource.TheImpl as at_home
 refusal_cases : (P : Refusal → MountFault → Type 0) → ((s : ℕ) → P (Why.Device s) (Fault.Device s)) → ((a b : ℕ) → P (Why.Lost a b) (Fault.Lost a b)) → ((s : ℕ) → P (Why.Unsound s) (Fault.Unsound s)) → ((r : Refusal) → outer_device (outer_refusal r) ≡ None → P r Fault.Memory)
     → (r : Refusal) → P r (mount_fault_for r)
 refusal_cases P device lost unsound memory Why.NoSuch = memory Why.NoSuch refl
+refusal_cases P device lost unsound memory Why.Exists = memory Why.Exists refl
 refusal_cases P device lost unsound memory (Why.TooLong n) = memory (Why.TooLong n) refl
 refusal_cases P device lost unsound memory (Why.NoSpace need free) = memory (Why.NoSpace need free) refl
 refusal_cases P device lost unsound memory (Why.TooFragmented need best) = memory (Why.TooFragmented need best) refl

@@ -1,5 +1,5 @@
 -- A version that is loaded into a table over a cache, under a key of its own, and why none is.
-use Rattle.std.specs.Prelude.{◌≡◌, ◌×◌, ⊤, ⊥, ℕ, ◌≤◌, Bool, List, Option, None, Some, length, count_by}
+use Rattle.std.specs.Prelude.{◌≡◌, ℕ, ◌≤◌, Bool, List, Option, None, Some, length, count_by}
 use Rattle.fsd_bytes.specs.declared.key.Key.{Key}
 use Rattle.fsd_bytes.specs.declared.refusal.Refusal.{Refusal}
 use Rattle.sector_set.specs.Area.{Area}
@@ -37,9 +37,10 @@ module _ {D E : Type 0} (M : MachineGhosts D) (S : SourceGhosts E) (source : E) 
     pub there : OfTableIn M S source m m' old free (λ table. entry_of key table ≡ Some found.entry)
 
   -- Pages were reached, and nothing else, until it was refused, from outside, or since a page breaks the table, or is
-  -- spare and reached, or too few pages are spare.
-  pub record LoadsNone (map : Area) (w : Waits) (m m' : D) (old new : CacheValue) (free flags : List Bool) (home_a : ℕ) (refusal : Refusal) : Type 0 where
+  -- spare and reached, or too few pages are spare for a version of the key, which the table lacks.
+  pub record LoadsNone (key : Key) (map : Area) (w : Waits) (m m' : D) (old new : CacheValue) (free flags : List Bool) (home_a : ℕ) (refusal : Refusal) : Type 0 where
     pub kept : StaysInCache M S source m m' old new free flags
     pub looks : LooksOnly M S source (outer_refusal refusal) m m' old new free
-    pub fault : RefusesFor (IsTrusted M S source m old m' → (page : ℕ) × BarsPages (images_by M S source m' new (length flags)) flags page) ⊥ ⊥ ⊤ (count_by (λ spare. spare) free) refusal
+    pub fault : RefusesFor (IsTrusted M S source m old m' → (page : ℕ) × BarsPages (images_by M S source m' new (length flags)) flags page) ⊥ ⊥ (OfTableIn M S source m m' old free (λ table. entry_of key table ≡ None))
+        (count_by (λ spare. spare) free) refusal
     pub shown : ShowsUnsound M S source map w m m' old new free home_a refusal

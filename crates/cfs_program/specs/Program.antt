@@ -15,14 +15,14 @@ use Rattle.fsd_texts.specs.Script.{max_input, script_in}
 use Rattle.fsd_texts.specs.Text.{text}
 use Rattle.fsd_texts.specs.declared.bad_line.Cause.{Cause}
 use Rattle.fsd_runs.specs.declared.request.Request.{Request}
-use Rattle.fsd_runs.specs.declared.request.Request.TheVariants.{NoCommand, BadField, Format, Put, One, Script, Generate, Drill}
+use Rattle.fsd_runs.specs.declared.request.Request.TheVariants.{NoCommand, BadField, Format, Put, One, Script, Generate, Dump, Restore, Drill}
 use Rattle.fsd_runs.specs.Commands.{is_status_of, reply_statuses, reply_text}
 use Rattle.fsd_runs.specs.Errands.{IfMounts}
 use Rattle.fsd_runs.specs.Leaves.{IsSoundAsSaid, LeavesRun, NoneRose, Was}
 use Rattle.cfs_program.specs.Drill.{SaysDrill}
 use Rattle.cfs_program.specs.Formatting.{IsMadeBy, SaysFormat, SparesUnplanned, format_status, plan_asks}
 use Rattle.volume_contract.specs.State.{Ages}
-use Rattle.scrub.specs.Telling.{AreOfPage}
+use Rattle.scrub.specs.Telling.{AreOfPage, StandTwice}
 use Rattle.volume_turns.specs.Answering.{SaysOne}
 use Rattle.volume_turns.specs.Causes.{FailsInput, HasSpent, HasVolume, SaysCause, SaysFaultAt, SaysMade, SaysOfInput, is_of_fault, is_of_mounted}
 use Rattle.volume_turns.specs.Each.{SaysBadLine, SaysForced}
@@ -43,6 +43,8 @@ complete_statuses (Put name keep) = 0 ∷ 1 ∷ 3 ∷ 5 ∷ 7 ∷ 9 ∷ []
 complete_statuses (One command) = reply_statuses command ++ 3 ∷ 7 ∷ 9 ∷ []
 complete_statuses Script = 0 ∷ 2 ∷ 3 ∷ 5 ∷ 7 ∷ 9 ∷ []
 complete_statuses (Generate seed count) = 0 ∷ 3 ∷ 7 ∷ 9 ∷ []
+complete_statuses (Dump since) = 0 ∷ 1 ∷ 3 ∷ 7 ∷ 8 ∷ 9 ∷ []
+complete_statuses Restore = 0 ∷ 1 ∷ 3 ∷ 5 ∷ 7 ∷ 9 ∷ []
 complete_statuses Drill = 0 ∷ 7 ∷ []
 
 abbrev pub plan_faults : Result Layout LayoutFault → List ℕ
@@ -56,6 +58,7 @@ fault_statuses (BadField cause) = 6 ∷ []
 fault_statuses (Format n t p kind) = plan_faults (plan kind n t p)
 fault_statuses (Put name keep) = 4 ∷ 5 ∷ 6 ∷ []
 fault_statuses Script = 4 ∷ 5 ∷ 6 ∷ []
+fault_statuses Restore = 4 ∷ 5 ∷ 6 ∷ []
 fault_statuses Drill = 6 ∷ []
 fault_statuses request = 4 ∷ 6 ∷ []
 
@@ -69,31 +72,36 @@ asks_of (Format n t p kind) path = plan_asks (plan kind n t p) path
 asks_of Drill path = []
 asks_of request path = mount_asks path
 
--- A run of one command does one sync at most, and so does one that makes its commands up; a script over an honest machine
+-- A run of one command does one sync at most, and so does one that makes its commands up, a dump and a restore; a script over an honest machine
 -- does at most one for each command that asks for a force, and one at its end; another request does none.
 abbrev pub SyncsAtMost : Request → (Honest : Type 0) → (old new : Ledger) → Type 0
 SyncsAtMost (Put name keep) Honest old new = new.syncs ≤ old.syncs + 1
 SyncsAtMost (One command) Honest old new = new.syncs ≤ old.syncs + 1
 SyncsAtMost (Generate seed count) Honest old new = new.syncs ≤ old.syncs + 1
+SyncsAtMost (Dump since) Honest old new = new.syncs ≤ old.syncs + 1
+SyncsAtMost Restore Honest old new = new.syncs ≤ old.syncs + 1
 SyncsAtMost Script Honest old new = Honest → new.syncs ≤ old.syncs + most_in_script old.input
 SyncsAtMost request Honest old new = new.syncs ≡ old.syncs
 
--- only a put and a script take input
+-- only a put, a script and a restore take input
 abbrev pub LeavesInput : Request → (old new : List ℕ) → Type 0
 LeavesInput (Put name keep) old new = ⊤
 LeavesInput Script old new = ⊤
+LeavesInput Restore old new = ⊤
 LeavesInput request old new = new ≡ old
 
 -- nor has another request a fault of it
 abbrev pub SparesInput : Request → (old new : Report) → Type 0
 SparesInput (Put name keep) old new = ⊤
 SparesInput Script old new = ⊤
+SparesInput Restore old new = ⊤
 SparesInput request old new = new.input_faults ≡ old.input_faults
 
--- what it was and what is left of it where a put or a script is done, or a put is refused
+-- what it was and what is left of it where a put, a script or a restore is done, or a put or a restore is refused
 abbrev pub TakesAll : Request → (input left : List ℕ) → Type 0
 TakesAll (Put name keep) input left = (left ≡ []) × (length input ≤ max_input)
 TakesAll Script input left = left ≡ []
+TakesAll Restore input left = (left ≡ []) × (length input ≤ max_input)
 TakesAll request input left = ⊤
 
 -- no line of a script is bad: its commands stand in it to its end
@@ -111,6 +119,7 @@ HasBadLine request Past input before new = ⊤
 abbrev pub input_for : Request → List ℕ → List ℕ
 input_for (Put name keep) input = input
 input_for Script input = input
+input_for Restore input = input
 input_for request input = []
 
 -- ---- what is said
@@ -147,11 +156,13 @@ is_script request = false
 -- the sectors that a call of a run may tell as lost
 abbrev pub RunMayLose : Request → Layout → (a b : ℕ) → Type 0
 RunMayLose (One command) = MayLose command
+RunMayLose (Dump since) = StandTwice
 RunMayLose request = AreOfPage
 
--- how many commands it makes up, if it does
+-- how many commands it does at most with no force between them that its words ask for
 abbrev pub made_for : Request → Option ℕ
 made_for (Generate seed count) = Some count
+made_for Restore = Some max_input
 made_for request = None
 
 -- where it was answered to its end, a script says for each of its commands a reply that this may have, over the image

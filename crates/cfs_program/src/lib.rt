@@ -2,6 +2,7 @@
 #![tactic(auto)]
 
 mod drilling;
+mod dumping;
 mod formatting;
 mod lives;
 mod making;
@@ -13,6 +14,7 @@ mod scripting;
 mod words;
 
 pub use drilling::run_drill;
+pub use dumping::{run_dump_of, run_restore_of};
 pub use formatting::run_format;
 pub use making::run_made_up;
 pub use opening::run_command;

@@ -59,6 +59,7 @@ fn text_of(alloc: Global, answer: &Reply) -> Result<Vec<u8>, AllocError>
             alloc,
             &[Word("made"), Part::Key(key), Number(u64::from(*sectors))],
         ),
+        Reply::Loaded(key) => parts_text(alloc, &[Word("loaded"), Part::Key(key)]),
         Reply::Deleted(key) => parts_text(alloc, &[Word("deleted"), Part::Key(key)]),
         Reply::Kept { key, keep } => parts_text(
             alloc,

@@ -5,6 +5,7 @@ ghost use Rattle.fsd_runs.specs.declared.request.Request.TheVariants.{NoCommand}
 ghost use Rattle.cfs_program.specs.Program.{Ran, field_line};
 
 use crate::drilling::run_drill;
+use crate::dumping::{run_dump_of, run_restore_of};
 use crate::formatting::run_format;
 use crate::making::run_made_up;
 use crate::opening::run_command;
@@ -41,6 +42,8 @@ pub fn run_request<M: Machine, V: Files<M> + Drop, W: Files<MemoryMachine> + Dro
         Request::Put { name, keep } => run_input::<M, V>(alloc, m, path, name, *keep),
         Request::Script => run_commands::<M, V>(alloc, m, path),
         Request::Generate { seed, count } => run_made_up::<M, V>(alloc, m, path, *seed, *count),
+        Request::Dump(since) => run_dump_of::<M, V>(alloc, m, path, *since),
+        Request::Restore => run_restore_of::<M, V>(alloc, m, path),
         Request::Drill => run_drill::<M, W>(alloc, m),
     }
 }

@@ -5,21 +5,21 @@ use Rattle.fsd_bytes.specs.Keys.{key_of}
 use Rattle.fsd_dumps.specs.Dump.{Dumped, dump_bytes}
 use Rattle.fsd_dumps.specs.Front.{dumped_in}
 
-abbrev serial_of : ℕ → ℕ → Serial
+abbrev pub serial_of : ℕ → ℕ → Serial
 serial_of epoch count = record { epoch = epoch; count = count }
 
 -- of a volume without versions
-abbrev empty : List ℕ
+abbrev pub empty : List ℕ
 empty = codes "CFSD" ++ (0 ∷ 0 ∷ 0 ∷ 0 ∷ 0 ∷ 0 ∷ 0 ∷ 0 ∷ 0 ∷ 0 ∷ 0 ∷ 0 ∷ codes "CFSE" ++ (0 ∷ 0 ∷ 0 ∷ 0 ∷ []))
 
 no_version : dump_bytes (serial_of 0 0) [] ≡ empty
 no_version = refl
 
 -- of one with the version a!1, whose byte is an x: 38 bytes
-abbrev x_in_a : Dumped
+abbrev pub x_in_a : Dumped
 x_in_a = record { key = key_of (codes "a") 1; keep = 2; kind = 0; bytes = codes "x" }
 
-abbrev one : List ℕ
+abbrev pub one : List ℕ
 one = codes "CFSD" ++ (0 ∷ 0 ∷ 0 ∷ 1 ∷ 0 ∷ 0 ∷ 0 ∷ 2 ∷ 0 ∷ 0 ∷ 0 ∷ 1 ∷ 1 ∷ codes "a" ++ (0 ∷ 0 ∷ 0 ∷ 1 ∷ 0 ∷ 2 ∷ 0 ∷ 0 ∷ 0 ∷ 0 ∷ 1 ∷ codes "x" ++ (codes "CFSE" ++ (0 ∷ 0 ∷ 0 ∷ 1 ∷ []))))
 
 one_version : dump_bytes (serial_of 2 1) (x_in_a ∷ []) ≡ one

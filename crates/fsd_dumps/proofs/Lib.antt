@@ -9,4 +9,4 @@ pub mod Common
 pub mod Fronts
 pub mod Places
 pub mod Ends
-mod DumpExamples
+pub mod DumpExamples

@@ -490,12 +490,14 @@ load_moves v key keep bytes runs serial r absent =
         let new : used s (plans_of (filter (λ x. true) (entry_put e v.entries))) ≡ used s (plans_of (entry_put e v.entries)) = ap (λ (x : List Entry). used s (plans_of x)) (none_left_out (entry_put e v.entries)) in
         (omega (arith, all.most, old, same, new), omega (arith, all.least, old, same, new))
 
+pub loaded_changes : (v : Volume) (key : Key) (keep : ℕ) (bytes : List ℕ) (runs : List Run) (serial : Serial) (r : ℕ) → IsAbsent key v.entries → AreFree v runs → IsSpaced v → Changes v (with_loaded v key keep bytes runs serial r)
+loaded_changes v key keep bytes runs serial r absent free spaced = changes_then v (with_loaded v key keep bytes runs serial r) [] runs (load_moves v key keep bytes runs serial r absent) free spaced
+
 -- a load that has found a place, up to its change
 pub load_changes : (chosen : Bool) (v : Volume) (key : Key) (keep : ℕ) (bytes : List ℕ) (need : ℕ) (runs : List Run) (serial : Serial) (r : ℕ) → IsSpaced v → entry_of key v.entries ≡ None
     → place_for v need ≡ Some runs → Changes (forced_if chosen (drawn v)) (with_loaded (forced_if chosen (drawn v)) key keep bytes runs serial r)
 load_changes chosen v key keep bytes need runs serial r spaced none place =
-    let at = forced_if chosen (drawn v) in
-    changes_then at (with_loaded at key keep bytes runs serial r) [] runs (load_moves at key keep bytes runs serial r (absent (chosen && nat_le 2 v.unforced)))
+    loaded_changes (forced_if chosen (drawn v)) key keep bytes runs serial r (absent (chosen && nat_le 2 v.unforced))
     (still_free chosen v runs (subst (λ (o : Option (List Run)). IfSome o (AreFree v)) place (place_is_free v need))) (space (chosen && nat_le 2 v.unforced))
   where
     absent : (b : Bool) → IsAbsent key (cond b (forced (drawn v)) (drawn v)).entries

@@ -4,7 +4,7 @@ use Rattle.std.specs.Fmt.{digits}
 use Rattle.std.specs.Prelude.{length, replicate, true, false}
 use Rattle.fsd_bytes.specs.Keys.{key_of}
 use Rattle.run_table.specs.RunTable.{run_of}
-use Rattle.fsd_files.specs.Answers.{Met, put_outcome}
+use Rattle.fsd_files.specs.Answers.{put_outcome}
 use Rattle.fsd_files.specs.Disk.{Image, Sectors}
 use Rattle.fsd_files.specs.declared.reply.Reply.TheVariants.{Made}
 use Rattle.fsd_files.specs.Volume.{Volume}
@@ -17,12 +17,9 @@ use Rattle.fsd_texts.specs.declared.end.End.TheVariants.{Done}
 use Rattle.fsd_texts.specs.Script.{script_in, script_of}
 use Rattle.fsd_runs.specs.Commands.{may_wear_out}
 use Rattle.fsd_runs.specs.Errands.{ByFault, Errand, Turn, errand_alone, blank, cut_off, forced_turn, scripted}
-use Rattle.fsd_runs.specs.Runs.{IsCutBefore, IsStep, answered, last_count, said_in}
+use Rattle.fsd_runs.specs.Runs.{IsCutBefore, IsStep, last_count, said_in}
 use Rattle.fsd_runs.specs.Sessions.{Meeting, session_over}
-use Rattle.fsd_runs.proofs.Plain.{behind, default, finds_922, fresh, lines, meets, plain, plainly, says, turns_on}
-
-abbrev status : Errand → List Met → Volume → ℕ
-status e mets v = (e.ends (answered (map (λ met. meets met) mets) (session_over v) e.commands)).status
+use Rattle.fsd_runs.proofs.Plain.{behind, default, finds_922, fresh, lines, plain, plainly, says, status_of, turns_on}
 
 abbrev puts_a_b_c : List ℕ
 puts_a_b_c = lines (codes "put a 0" ∷ codes "" ∷ codes "put b 0" ∷ codes "" ∷ codes "put c 0" ∷ codes "" ∷ [])
@@ -36,7 +33,7 @@ says_three_and_bad : says three_and_bad default ≡ lines (codes "made a!1 1" �
 unfolding digits
 says_three_and_bad = refl
 
-status_of_bad : status three_and_bad (plainly three_and_bad) default ≡ 2
+status_of_bad : status_of three_and_bad (plainly three_and_bad) default ≡ 2
 status_of_bad = refl
 
 -- ---- a force that makes place
@@ -60,10 +57,10 @@ abbrev gets : Errand
 gets = scripted (map (λ c. Plain c) (Word.Put (codes "a") (codes "x") None ∷ Word.Get (key_of (codes "a") 1) ∷ Word.Delete (key_of (codes "a") 1) ∷ []), Done)
 
 -- a script goes on behind it
-status_in_a_script : status gets (plain ∷ finds_922 ∷ plain ∷ []) default ≡ 0
+status_in_a_script : status_of gets (plain ∷ finds_922 ∷ plain ∷ []) default ≡ 0
 status_in_a_script = refl
 
-status_alone : status (errand_alone (Word.Get (key_of (codes "a") 1))) (finds_922 ∷ []) (behind default (Word.Put (codes "a") (codes "x") None ∷ [])) ≡ 8
+status_alone : status_of (errand_alone (Word.Get (key_of (codes "a") 1))) (finds_922 ∷ []) (behind default (Word.Put (codes "a") (codes "x") None ∷ [])) ≡ 8
 status_alone = refl
 
 -- ---- a group that is cut off
@@ -78,7 +75,7 @@ says_worn_out : said_in (turns_on worn (plain ∷ []) default) ≡ lines (codes 
 unfolding digits
 says_worn_out = refl
 
-status_worn_out : status worn (plain ∷ []) default ≡ 9
+status_worn_out : status_of worn (plain ∷ []) default ≡ 9
 status_worn_out = refl
 
 -- the second command would change something, the fourth would not, and there is no fifth

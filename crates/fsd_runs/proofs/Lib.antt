@@ -1,5 +1,6 @@
 pub mod AnswerLaws
 mod CountExamples
+mod DumpExamples
 pub mod EndExamples
 pub mod LeaveExamples
 pub mod LeaveLaws

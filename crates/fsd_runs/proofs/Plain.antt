@@ -9,7 +9,7 @@ use Rattle.fsd_texts.specs.Script.{script_in}
 use Rattle.fsd_texts.specs.Text.{newline}
 use Rattle.fsd_runs.specs.Commands.{answer}
 use Rattle.fsd_runs.specs.Errands.{Errand, Turn, scripted}
-use Rattle.fsd_runs.specs.Runs.{turns_of, said_in}
+use Rattle.fsd_runs.specs.Runs.{answered, turns_of, said_in}
 use Rattle.fsd_runs.specs.Sessions.{Meeting, session_over}
 
 abbrev pub plain : Met
@@ -49,6 +49,10 @@ plainly e = replicate (length e.commands) plain
 -- its turns over a volume
 abbrev pub turns_on : Errand → List Met → Volume → List Turn
 turns_on e mets v = turns_of e (map (λ met. meets met) mets) (session_over v)
+
+-- the status that it gives
+abbrev pub status_of : Errand → List Met → Volume → ℕ
+status_of e mets v = (e.ends (answered (map (λ met. meets met) mets) (session_over v) e.commands)).status
 
 -- all that an errand says
 abbrev pub says : Errand → Volume → List ℕ

@@ -39,6 +39,16 @@ pub(crate) fn put_counted(text: &mut LineText, word: &str, number: u64)
     put_number(text, number);
 }
 
+// Puts a key behind the others.
+pub(crate) fn put_key(text: &mut LineText, key: &Key)
+    requires { array_vec_len text.old + 61 ≤ 194 }
+    ensures key { text.new.items ≡ text.old.items ++ key_text key.now }
+    ensures short { array_vec_len text.new ≤ array_vec_len text.old + 61 }
+{
+    put(text, key.name.as_bytes());
+    put_counted(text, "!", u64::from(key.version));
+}
+
 // Words.
 pub(crate) fn words(said: &str) -> LineText
     requires { length said.now ≤ 100 }
@@ -78,8 +88,7 @@ pub(crate) fn key_text(key: &Key) -> LineText
     ensures { result.items ≡ key_text key.now }
 {
     let mut text = LineText::new();
-    put(&mut text, key.name.as_bytes());
-    put_counted(&mut text, "!", u64::from(key.version));
+    put_key(&mut text, key);
     text
 }
 

@@ -4,8 +4,8 @@ ghost use Rattle.arrayvec.specs.ArrayVec.{array_vec_len};
 ghost use Rattle.fsd_texts.specs.declared.line.Line.TheVariants as Says;
 ghost use Rattle.fsd_texts.specs.Text.{bad_line_text, cause_text, fault_text, layout_words, newline, refusal_words, refused_line, text};
 
-use crate::laying::{LineText, numbered, paired, put, put_counted, words};
-use fsd_bytes::Refusal;
+use crate::laying::{LineText, numbered, paired, put, put_counted, put_key, words};
+use fsd_bytes::{Key, Refusal};
 use fsd_texts::{Bytes, Cause, Counts, Fault, Line};
 use std::alloc::AllocError;
 use volume_layout::LayoutFault;
@@ -31,6 +31,10 @@ pub fn lay_line(line: &Line) -> LineText
         Line::Generated(counts) => generated_text(counts),
         Line::Life(life) => numbered("life ", u64::from(*life)),
         Line::Refused(why) => refused_text(*why),
+        Line::NoDump(place) => numbered("refused dump ", u64::from(*place)),
+        Line::Exists(key) => exists_text(key),
+        Line::Restored(count) => numbered("restored ", u64::from(*count)),
+        Line::Damaged { key, sector } => damaged_text(key, *sector),
         Line::Ended(fault) => ended_text(*fault),
     }
 }
@@ -149,6 +153,25 @@ fn refused_text(why: Refusal) -> LineText
         | Refusal::WornOut
         | Refusal::Memory => words("refused\n"),
     }
+}
+
+fn exists_text(key: &Key) -> LineText
+    ensures { result.items ≡ text (Says.Exists key.now) }
+{
+    let mut text = words("refused exists ");
+    put_key(&mut text, key);
+    put(&mut text, b"\n");
+    text
+}
+
+fn damaged_text(key: &Key, sector: u32) -> LineText
+    ensures { result.items ≡ text (Says.Damaged key.now sector) }
+{
+    let mut text = words("damaged ");
+    put_key(&mut text, key);
+    put_counted(&mut text, " ", u64::from(sector));
+    put(&mut text, b"\n");
+    text
 }
 
 fn ended_text(fault: Fault) -> LineText

@@ -14,7 +14,7 @@ use Rattle.fsd_table.proofs.BoundLaws.{Ascend, ascend_tail, all_weaker}
 use Rattle.fsd_table.proofs.KeyLaws.{keys_total, lt_lt, less}
 use Rattle.fsd_files.specs.Answers.{entry_of, entry_put, entry_kept, entries_with_keep}
 use Rattle.fsd_files.specs.Volume.{entries_without}
-use Rattle.fsd_files.proofs.ListingLaws.{alike_is}
+use Rattle.fsd_files.proofs.ListingLaws.{alike_is, entries_without_none}
 use Rattle.name_btree.specs.Map.{without_all}
 use Rattle.name_page.specs.declared.entries.Side.TheVariants.{Lesser, Greater as Above}
 use Rattle.name_page.specs.Edits.{beside, put, with_entry, without, is_on}
@@ -96,12 +96,8 @@ without_twice key keys (x ∷ xs) = by (same_key x.key key) (list_any (same_key 
     by true c is rest = rest
     by false c is rest = ap (λ (v : Bool). cond (not v) (x ∷ entries_without keys w) (entries_without keys w)) is ∙ ap (λ (ys : List Entry). cond (not c) (x ∷ ys) ys) rest
 
-without_none : (xs : List Entry) → xs ≡ entries_without [] xs
-without_none [] = refl
-without_none (x ∷ xs) = ap (λ (ys : List Entry). x ∷ ys) (without_none xs)
-
 pub without_some : (keys : List Key) (xs : List Entry) → Ascend xs → without_all keys xs ≡ entries_without keys xs
-without_some [] xs asc = without_none xs
+without_some [] xs asc = sym (entries_without_none xs)
 without_some (key ∷ keys) xs asc =
     ap (without_all keys) (without_one key xs asc) ∙ without_some keys (entries_without (key ∷ []) xs) (kept_ascend _ xs asc) ∙ without_twice key keys xs
 

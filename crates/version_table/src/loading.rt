@@ -5,7 +5,7 @@ ghost use Rattle.name_btree.specs.declared.lookup.FoundEntry.{FoundEntry};
 ghost use Rattle.name_btree.specs.Lookup.{IsMetAs};
 ghost use Rattle.name_page.specs.declared.pages.TheConstants.{MOST_REACHED};
 ghost use Rattle.name_page.specs.Looks.{OnlyWalks};
-ghost use Rattle.version_table.specs.Fault.{outer_met, FailsToFindVersion};
+ghost use Rattle.version_table.specs.Fault.{outer_met, FailsToFindVersion, ShowsLook};
 ghost use Rattle.version_table.specs.Loading.{IsLoadPlan, IsThere};
 ghost use Rattle.version_table.specs.Table.{OfTable};
 
@@ -23,6 +23,7 @@ pub fn plan_load<T: Pages>(t: &mut T, key: &Key, keep: u32) -> Result<Option<Pla
     ensures walks { OnlyWalks T.Pages (outer_met result) t.old t.new }
     ensures planned { IfOk result (λ found. MatchOption found (IsThere T.Pages key.now t.old t.new) (IsLoadPlan T.Pages key.now keep t.old t.new)) }
     ensures failed { IfErr result (FailsToFindVersion T.Pages t.old t.new ⊥ ⊥) }
+    ensures shown { IfErr result (ShowsLook (T.step t.new)) }
 {
     match version_at(t, key) {
         Ok(_) => Ok(None),

@@ -40,6 +40,7 @@ pub refusal_cases : (P : Option Refusal → Refusal → Type 0) → ((s : ℕ) �
     → (f : TreeFault) → P (outer_of f) (edit_refusal f)
 refusal_cases P device lost memory none (Broken page) = none
 refusal_cases P device lost memory none (Pages Why.NoSuch) = none
+refusal_cases P device lost memory none (Pages Why.Exists) = none
 refusal_cases P device lost memory none (Pages (Why.TooLong n)) = none
 refusal_cases P device lost memory none (Pages (Why.NoSpace need free)) = none
 refusal_cases P device lost memory none (Pages (Why.TooFragmented need best)) = none

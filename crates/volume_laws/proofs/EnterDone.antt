@@ -19,8 +19,10 @@ use Rattle.shadow_frees.specs.Waits.{Waits}
 use Rattle.fsd_formats.specs.declared.entry.Entry.{Entry}
 use Rattle.fsd_formats.specs.NamePage.{is_entry, max_keep, max_length, sectors_for}
 use Rattle.fsd_table.specs.Table.{top}
-use Rattle.fsd_files.specs.Answers.{HasVersion, entry_of}
-use Rattle.fsd_files.specs.Files.{new_key}
+use Rattle.fsd_files.specs.Answers.{HasVersion, entry_of, new_entry}
+use Rattle.fsd_files.specs.Disk.{in_runs}
+use Rattle.fsd_files.specs.Files.{Change, gone_keys, new_key}
+use Rattle.fsd_files.specs.Kept.{KeptIn}
 use Rattle.fsd_files.specs.Space.{Apart}
 use Rattle.fsd_files.specs.Volume.{plans_of}
 use Rattle.fsd_files.proofs.ListingLaws.{lists_length}
@@ -29,6 +31,7 @@ use Rattle.group_commit.specs.contracts.newest.NewestPageSource.TheImpl as by_lo
 use Rattle.log_thirds.specs.LogValue.{LogValue}
 use Rattle.page_cache.specs.Cache.{CacheValue, IsCache, is_among}
 use Rattle.fsd_sound.specs.Mounted.{most_changed}
+use Rattle.version_table.specs.declared.oldest.Leaving.{Leaving}
 use Rattle.version_table.specs.declared.planning.Plan.{Plan}
 use Rattle.version_table.specs.Plan.{IsPlan, planned_entry, with_planned}
 use Rattle.version_table.specs.Versions.{next_key}
@@ -36,14 +39,17 @@ use Rattle.version_table.proofs.PlanLaws.{entries_good, keys_agree}
 use Rattle.volume_contract.specs.State.{Known, Stands, volume_of}
 use Rattle.cached_table.specs.Editing.{DirtiesAtMost, EditsOnly, EditsTable}
 use Rattle.cached_table.specs.Entering.{OfTableIn, with_gone}
-use Rattle.volume_laws.specs.Entered.{StandsEntered}
+use Rattle.volume_laws.specs.Changing.{IsAfter}
+use Rattle.volume_laws.specs.Entered.{StandsEntered, StandsMade}
 use Rattle.volume_laws.specs.Placing.{IsPlace}
 use Rattle.volume_laws.specs.State.{IsMemoryOf, state}
 use Rattle.volume_laws.specs.Volume.{IsWholeVolume, VolumeValue}
 use Rattle.volume_laws.proofs.EnterEnds.{none_bars, of_entries}
-use Rattle.volume_laws.proofs.EnteredLaws.{after, ascend, count_entered, entries_made, entry_entered, known_entered, some_waits, sorted, stands_entered}
+use Rattle.volume_laws.proofs.EnteredLaws.{after, ascend, count_entered, entry_entered, known_entered, some_waits, sorted, stands_entered}
+use Rattle.volume_laws.proofs.EnteredSpace.{made}
 use Rattle.volume_laws.proofs.MadeLaws.{has_table, pages_made, pages_now}
 use Rattle.volume_laws.proofs.MakingLaws.{with_if}
+use Rattle.volume_laws.proofs.NewVersionLaws.{IsMade, put_made}
 use Rattle.volume_laws.proofs.FlagLaws.{all_pass}
 
 -- ---- no more versions than sectors
@@ -82,6 +88,80 @@ some_wait none (page ∷ dirty) wet is = ap not (is ∙ ne_eqb (suc (length dirt
 -- ---- the volume
 
 module _ {D : Type 0} (M : MachineGhosts D) (short : (m : D) → M.honest m → AreShort (M.now m).windows) (m m' : D) (v w : VolumeValue) (is : v ≡ w) (whole : IsWholeVolume v) (cached : IsCache v.cache) (c : CacheValue) (flags : List Bool)
+    (log : LogValue) (of_log : log ≡ v.log) (narrow : v.layout.sectors < 2 ^ 32) (room : length v.cache.dirty ≤ 56) (edits : EditsOnly M by_log.ghosts log None m m' v.cache c v.free_pages flags) (fewer : DirtiesAtMost 36 v.cache c)
+    (waits : AreWaiting (length v.free_pages) c) (honest : M.honest m') (k : Known) (stands : Stands state IsMemoryOf w k (M.now m)) where
+  pub here : Stands state IsMemoryOf v k (M.now m)
+  here = subst (λ (x : VolumeValue). Stands state IsMemoryOf x k (M.now m)) (sym is) stands
+
+  pub edits_here : EditsOnly M by_log.ghosts v.log None m m' v.cache c v.free_pages flags
+  edits_here = subst (λ (l : LogValue). EditsOnly M by_log.ghosts l None m m' v.cache c v.free_pages flags) of_log edits
+
+  few : length c.dirty ≤ length v.cache.dirty + most_changed
+  few = omega (arith, fewer.few, room)
+
+  within : (page : ℕ) → is_among c.dirty page ≡ true → page < length flags
+  within page dirty = let one = waits page dirty in omega (arith, one.inside, edits.size)
+
+  -- ---- what a change makes of it
+
+  module _ (change : Change) (e : Entry) (out : List Key) (gone : List Leaving) (edit : List Entry → List Entry) (bytes : List ℕ) (is_made : IsMade (volume_of k) change e out gone edit bytes)
+      (makes : EditsTable M by_log.ghosts log m m' v.cache c v.free_pages flags edit) (need : ℕ) (place : IsPlace v.map need e.runs) (there : KeptIn (M.now m').image (open_damage (M.now m').windows) bytes e.runs) where
+    makes_here : EditsTable M by_log.ghosts v.log m m' v.cache c v.free_pages flags edit
+    makes_here = subst (λ (l : LogValue). EditsTable M by_log.ghosts l m m' v.cache c v.free_pages flags edit) of_log makes
+
+    abbrev known : Known
+    known = known_entered M short m m' v whole cached c flags edits_here honest k here few within change e out gone edit bytes is_made makes_here need place there
+
+    -- some page waits, so what goes does
+    pub not_dry : c.dirty ≡ [] → ⊥
+    not_dry = some_waits M short m m' v whole cached c flags edits_here honest k here few within change e out gone edit bytes is_made makes_here need place there
+
+    counted : length (volume_of known).files + length gone ≡ v.versions + 1
+    counted = count_entered M short m m' v whole cached c flags edits_here honest k here few within change e out gone edit bytes is_made makes_here need place there
+
+    found : entry_of e.key (volume_of known).entries ≡ Some e
+    found = entry_entered M short m m' v whole cached c flags edits_here honest k here few within change e out gone edit bytes is_made makes_here need place there
+
+    then : IsAfter change (in_runs k.windows) (M.now m').image (volume_of k) (volume_of known)
+    then = after M short m m' v whole cached c flags edits_here honest k here few within change e out gone edit bytes is_made makes_here need place there
+
+    no_more : length (volume_of known).files ≤ v.layout.sectors
+    no_more =
+        let made = pages_made M short m m' v whole cached c flags None edits_here honest k here few within edit makes_here in
+        let height : ℕ = (has_table M short m m' v whole cached c flags None edits_here honest k here few within edit makes_here).height in
+        let good : list_all is_entry (volume_of known).entries ≡ true =
+        subst (λ (es : List Entry). list_all is_entry es ≡ true) (made.1 ∙ is_made.entries) (entries_good (height - 1) (pages_now M short m m' v whole cached c flags None edits_here honest k here) top) in
+        omega (
+          arith,
+          lists_length (volume_of known).files (volume_of known).entries then.described.lists,
+          few_entries (volume_of k).layout (volume_of known).entries then.described.apart good,
+          ap (λ (l : Layout). l.sectors) here.fits.layout,
+        )
+
+    some : 1 ≤ length (volume_of known).files
+    some = omega (arith, lists_length (volume_of known).files (volume_of known).entries then.described.lists, found_some e.key (volume_of known).entries e found)
+
+    module _ (draft : Entry) (written : HasVersion (open_damage (M.now m').windows) (M.now m').image bytes draft) (free : Area) (shadow : Waits) (versions : ℕ) (counts : versions ≡ min (v.versions - length gone + 1) 4294967295)
+        (taken : free ≡ without_sectors v.map e.runs) (goes : shadow.removed ≡ with_gone v.shadow.removed gone) (kept : shadow.kept ≡ v.shadow.kept) (unfinished : shadow.unfinished ≡ v.shadow.unfinished) (held : shadow.held ≡ v.shadow.held) where
+      -- it stands with the version
+      pub ends_made : IsWholeVolume (record v { map = free; shadow = shadow; cache = c; free_pages = flags; versions = versions })
+          → StandsMade change (λ r. made (volume_of k) change e out r) e bytes draft k (record v { map = free; shadow = shadow; cache = c; free_pages = flags; versions = versions }) (M.now m')
+      ends_made made_whole = record {
+        after = known;
+        reached = (volume_of known).reached;
+        volume = refl;
+        opened = refl;
+        windows = refl;
+        changes = refl;
+        stands = stands_entered M short m m' v whole cached c flags edits_here honest k here few within change e out gone edit bytes is_made makes_here need place there
+            free shadow versions (omega (arith, counts, counted, no_more, narrow, some)) taken goes kept unfinished held made_whole;
+        entered = found;
+        written = written;
+      }
+
+-- ---- by a put
+
+module _ {D : Type 0} (M : MachineGhosts D) (short : (m : D) → M.honest m → AreShort (M.now m).windows) (m m' : D) (v w : VolumeValue) (is : v ≡ w) (whole : IsWholeVolume v) (cached : IsCache v.cache) (c : CacheValue) (flags : List Bool)
     (log : LogValue) (of_log : log ≡ v.log) (name : List ℕ) (given : Option ℕ) (draft : Entry) (plan : Plan) (small : plan.key.version < 2 ^ 32) (narrow : v.layout.sectors < 2 ^ 32) (room : length v.cache.dirty ≤ 56)
     (edits : EditsOnly M by_log.ghosts log None m m' v.cache c v.free_pages flags) (fewer : DirtiesAtMost 36 v.cache c) (waits : AreWaiting (length v.free_pages) c)
     (planned : OfTableIn M by_log.ghosts log m m' v.cache v.free_pages (λ table. IsPlan name given table plan)) (many : 8 ≤ count_by (λ spare. spare) v.free_pages)
@@ -91,91 +171,38 @@ module _ {D : Type 0} (M : MachineGhosts D) (short : (m : D) → M.honest m → 
   abbrev edit : List Entry → List Entry
   edit = with_planned plan (planned_entry plan draft.serial draft.length draft.runs)
 
-  here : Stands state IsMemoryOf v k (M.now m)
-  here = subst (λ (x : VolumeValue). Stands state IsMemoryOf x k (M.now m)) (sym is) stands
+  abbrev was : Stands state IsMemoryOf v k (M.now m)
+  was = here M short m m' v w is whole cached c flags log of_log narrow room edits fewer waits honest k stands
 
-  edits_here : EditsOnly M by_log.ghosts v.log None m m' v.cache c v.free_pages flags
-  edits_here = subst (λ (l : LogValue). EditsOnly M by_log.ghosts l None m m' v.cache c v.free_pages flags) of_log edits
-
-  makes_here : EditsTable M by_log.ghosts v.log m m' v.cache c v.free_pages flags edit
-  makes_here = subst (λ (l : LogValue). EditsTable M by_log.ghosts l m m' v.cache c v.free_pages flags edit) of_log makes
-
-  few : length c.dirty ≤ length v.cache.dirty + most_changed
-  few = omega (arith, fewer.few, room)
-
-  within : (page : ℕ) → is_among c.dirty page ≡ true → page < length flags
-  within page dirty = let one = waits page dirty in omega (arith, one.inside, edits.size)
+  abbrev edited : EditsOnly M by_log.ghosts v.log None m m' v.cache c v.free_pages flags
+  edited = edits_here M short m m' v w is whole cached c flags log of_log narrow room edits fewer waits honest k stands
 
   plan_here : IsPlan name given (volume_of k).entries plan
-  plan_here = of_entries M short m m' v whole cached c flags None edits_here honest k here name (λ table. IsPlan name given table plan)
+  plan_here = of_entries M short m m' v whole cached c flags None edited honest k was name (λ table. IsPlan name given table plan)
       (subst (λ (l : LogValue). OfTableIn M by_log.ghosts l m m' v.cache v.free_pages (λ table. IsPlan name given table plan)) of_log planned)
 
   key_here : plan.key ≡ new_key name (volume_of k).files
-  key_here = plan_here.key ∙ sym (keys_agree name (volume_of k).files (volume_of k).entries here.disk.described.lists)
-
-  place_here : IsPlace v.map (sectors_for (length bytes)) draft.runs
-  place_here = subst (λ (n : ℕ). IsPlace v.map (sectors_for n) draft.runs) long place
+  key_here = plan_here.key ∙ sym (keys_agree name (volume_of k).files (volume_of k).entries was.disk.described.lists)
 
   usable : (next_key name (volume_of k).entries).version ≤ max_u32
   usable = omega (arith, small, ap (λ (x : Key). x.version) plan_here.key)
 
-  abbrev known : Known
-  known = known_entered M short m m' v whole cached c flags edits_here honest k here few within name bytes given draft plan plan_here long makes_here place_here written
-
-  -- some page waits, so what goes does
-  not_dry : c.dirty ≡ [] → ⊥
-  not_dry = some_waits M short m m' v whole cached c flags edits_here honest k here few within name bytes given draft plan plan_here long makes_here place_here written
-
-  counted : length (volume_of known).files + length plan.gone.items ≡ v.versions + 1
-  counted = count_entered M short m m' v whole cached c flags edits_here honest k here few within name bytes given draft plan plan_here long makes_here place_here written
-
-  no_more : length (volume_of known).files ≤ v.layout.sectors
-  no_more =
-      let made = pages_made M short m m' v whole cached c flags None edits_here honest k here few within edit makes_here in
-      let then = after M short m m' v whole cached c flags edits_here honest k here few within name bytes given draft plan plan_here long makes_here place_here written in
-      let height : ℕ = (has_table M short m m' v whole cached c flags None edits_here honest k here few within edit makes_here).height in
-      let tree_entries = made.1 ∙ entries_made (volume_of k) name bytes given draft (volume_of known).reached
-      (ascend M short m m' v whole cached c flags edits_here honest k here few within name bytes given draft plan plan_here long makes_here place_here written)
-      (sorted M short m m' v whole cached c flags edits_here honest k here few within name bytes given draft plan plan_here long makes_here place_here written)
-      here.disk.described.lists plan plan_here long in
-      let good : list_all is_entry (volume_of known).entries ≡ true = subst (λ (es : List Entry). list_all is_entry es ≡ true) tree_entries (entries_good (height - 1) (pages_now M short m m' v whole cached c flags None edits_here honest k here) top) in
-      omega (
-        arith,
-        lists_length (volume_of known).files (volume_of known).entries then.described.lists,
-        few_entries (volume_of k).layout (volume_of known).entries then.described.apart good,
-        ap (λ (l : Layout). l.sectors) here.fits.layout,
-      )
-
-  some : 1 ≤ length (volume_of known).files
-  some =
-      let then = after M short m m' v whole cached c flags edits_here honest k here few within name bytes given draft plan plan_here long makes_here place_here written in
-      omega (
-        arith,
-        lists_length (volume_of known).files (volume_of known).entries then.described.lists,
-        found_some _ (volume_of known).entries _ (entry_entered M short m m' v whole cached c flags edits_here honest k here few within name bytes given draft plan plan_here long makes_here place_here written),
-      )
+  is_put : IsMade (volume_of k) (Change.Put name given bytes) (new_entry (volume_of k) name bytes given draft.runs draft.serial) (gone_keys name given bytes (volume_of k).files) plan.gone.items edit bytes
+  is_put = put_made (volume_of k) name bytes given draft (ascend v k (M.now m) whole was) (sorted v k (M.now m) was) was.disk.described.lists plan plan_here long
 
   module _ (free : Area) (shadow : Waits) (versions : ℕ) (counts : versions ≡ min (v.versions - length plan.gone.items + 1) 4294967295) (taken : free ≡ without_sectors v.map draft.runs)
       (none : Bool) (is_none : none ≡ (length c.dirty == 0)) (removed : shadow.removed ≡ with_if (not none) v.shadow.removed plan.gone.items)
       (kept : shadow.kept ≡ v.shadow.kept) (unfinished : shadow.unfinished ≡ v.shadow.unfinished) (held : shadow.held ≡ v.shadow.held) where
     goes : shadow.removed ≡ with_gone v.shadow.removed plan.gone.items
-    goes = removed ∙ ap (λ (b : Bool). with_if b v.shadow.removed plan.gone.items) (some_wait none c.dirty not_dry is_none)
+    goes = removed ∙ ap (λ (b : Bool). with_if b v.shadow.removed plan.gone.items)
+        (some_wait none c.dirty (not_dry M short m m' v w is whole cached c flags log of_log narrow room edits fewer waits honest k stands _ _ _ plan.gone.items edit bytes is_put makes (sectors_for draft.length) place written.data_there) is_none)
 
     -- it stands with the version, and its key is told
     pub ends_entered : IsWholeVolume (record v { map = free; shadow = shadow; cache = c; free_pages = flags; versions = versions })
         → StandsEntered name given bytes draft k (record v { map = free; shadow = shadow; cache = c; free_pages = flags; versions = versions }) (M.now m') plan.key
     ends_entered made_whole = record {
-      after = known;
-      none = none_bars M short m m' v whole cached c flags None edits_here honest k here name many usable;
+      none = none_bars M short m m' v whole cached c flags None edited honest k was name many usable;
       key_is = key_here;
-      reached = (volume_of known).reached;
-      volume = refl;
-      opened = refl;
-      windows = refl;
-      changes = refl;
-      stands = stands_entered M short m m' v whole cached c flags edits_here honest k here few within name bytes given draft plan plan_here long makes_here place_here written
-          free shadow versions (omega (arith, counts, counted, no_more, narrow, some)) taken goes kept unfinished held made_whole;
-      entered = ap (λ (x : Key). entry_of x (volume_of known).entries) key_here
-          ∙ entry_entered M short m m' v whole cached c flags edits_here honest k here few within name bytes given draft plan plan_here long makes_here place_here written;
-      written = written;
+      made = ends_made M short m m' v w is whole cached c flags log of_log narrow room edits fewer waits honest k stands _ _ _ plan.gone.items edit bytes is_put makes (sectors_for draft.length) place written.data_there
+          draft written free shadow versions counts taken goes kept unfinished held made_whole;
     }

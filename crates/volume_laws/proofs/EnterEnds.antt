@@ -33,8 +33,8 @@ use Rattle.version_table.specs.Versions.{next_key}
 use Rattle.version_table.proofs.PlanLaws.{each_found, each_mapped, keys_agree}
 use Rattle.volume_contract.specs.State.{Known, Stands, volume_of}
 use Rattle.cached_table.specs.Editing.{EditsOnly, StaysInCache}
-use Rattle.cached_table.specs.Entering.{AreInTurn, AreTaken, LosesUntaken, NoneFor, OfTableIn}
-use Rattle.volume_laws.specs.Entered.{EndsEntered}
+use Rattle.cached_table.specs.Entering.{AreInTurn, AreTaken, LosesUntaken, NoneFor, OfTableIn, RefusesFor}
+use Rattle.volume_laws.specs.Entered.{EndsEntered, EndsMade, StandsEntered}
 use Rattle.cached_table.specs.Looking.{BarsPages, images_by}
 use Rattle.volume_laws.specs.State.{IsMemoryOf, state}
 use Rattle.volume_laws.specs.Volume.{IsWholeVolume, VolumeValue}
@@ -142,30 +142,44 @@ module _ {D : Type 0} (M : MachineGhosts D) (short : (m : D) → M.honest m → 
 
 -- a refusal is one of the definitions, or came from outside
 module _ {D : Type 0} (M : MachineGhosts D) (short : (m : D) → M.honest m → AreShort (M.now m).windows) (m m' : D) (v : VolumeValue) (whole : IsWholeVolume v) (cached : IsCache v.cache) (c : CacheValue) (flags : List Bool)
+    (honest : M.honest m') (k : Known) (stands : Stands state IsMemoryOf v k (M.now m)) (name : List ℕ) (valid : IsCache c) (stays : StaysInCache M by_log.ghosts v.log m m' v.cache c v.free_pages flags) where
+  abbrev After : (Option Refusal → Type 0) → Type 0
+  After Holds = (told : Option Refusal) → EditsOnly M by_log.ghosts v.log told m m' v.cache c v.free_pages flags → Holds told
+
+  pub refused_by : (fault : Option Refusal) {T : Type 0} (Made : T → Type 0) (Untaken UsedUp Usable : Type 0) → After (λ told. Untaken → ⊥) → After (λ told. UsedUp → fault ≡ Some Why.VersionsUsedUp)
+      → After (λ told. (n : ℕ) → n ≡ count_by (λ spare. spare) v.free_pages → n < 8 → Usable → fault ≡ Some (Why.NameTableFull n)) → (r : Refusal) → EditsOnly M by_log.ghosts v.log (outer_refusal r) m m' v.cache c v.free_pages flags
+      → RefusesFor (IsTrusted M by_log.ghosts v.log m v.cache m' → (page : ℕ) × BarsPages (images_by M by_log.ghosts v.log m' c (length flags)) flags page) Untaken UsedUp Usable (count_by (λ spare. spare) v.free_pages) r
+      → EndsMade fault Made k (record v { cache = c; free_pages = flags }) (M.now m') (Err r)
+  refused_by fault Made Untaken UsedUp Usable untaken used full (Why.Device s) edits none = stands_left M short m m' v whole cached c flags _ edits honest k stands name valid stays
+  refused_by fault Made Untaken UsedUp Usable untaken used full Why.Memory edits none = stands_left M short m m' v whole cached c flags _ edits honest k stands name valid stays
+  refused_by fault Made Untaken UsedUp Usable untaken used full (Why.Lost a b) edits none =
+      let lost = edits.loses.lost honest in
+      absurd (never_lost v k (M.now m') whole (worn M short m m' v whole cached c flags _ edits honest k stands) edits.loses.page (omega (arith, edits.loses.within, ap (λ (l : Layout). l.pages) whole.log)) a b lost.first lost.second lost.copies)
+  refused_by fault Made Untaken UsedUp Usable untaken used full (Why.Unsound s) edits (inl bars) = absurd (barred M short m m' v whole cached c flags _ edits honest k stands name valid stays bars)
+  refused_by fault Made Untaken UsedUp Usable untaken used full (Why.Unsound s) edits (inr lost) = absurd (untaken _ edits lost)
+  refused_by fault Made Untaken UsedUp Usable untaken used full Why.VersionsUsedUp edits (inr (inl bars)) = absurd (barred M short m m' v whole cached c flags _ edits honest k stands name valid stays bars)
+  refused_by fault Made Untaken UsedUp Usable untaken used full Why.VersionsUsedUp edits (inr (inr lost)) = absurd (untaken _ edits lost)
+  refused_by fault Made Untaken UsedUp Usable untaken used full Why.VersionsUsedUp edits (inl most) = (used _ edits most, stands_left M short m m' v whole cached c flags _ edits honest k stands name valid stays)
+  refused_by fault Made Untaken UsedUp Usable untaken used full (Why.NameTableFull n) edits (is, few, usable) = (full _ edits n is few usable, stands_left M short m m' v whole cached c flags _ edits honest k stands name valid stays)
+  refused_by fault Made Untaken UsedUp Usable untaken used full r edits none = absurd none
+
+module _ {D : Type 0} (M : MachineGhosts D) (short : (m : D) → M.honest m → AreShort (M.now m).windows) (m m' : D) (v : VolumeValue) (whole : IsWholeVolume v) (cached : IsCache v.cache) (c : CacheValue) (flags : List Bool)
     (honest : M.honest m') (k : Known) (stands : Stands state IsMemoryOf v k (M.now m)) (name : List ℕ) (given : Option ℕ) (bytes : List ℕ) (draft : Entry) (valid : IsCache c)
     (stays : StaysInCache M by_log.ghosts v.log m m' v.cache c v.free_pages flags) where
   abbrev Ends : Refusal → Type 0
   Ends r = EndsEntered name given bytes draft k (record v { cache = c; free_pages = flags }) (M.now m') (Err r)
 
   pub refused_ends : (r : Refusal) → EditsOnly M by_log.ghosts v.log (outer_refusal r) m m' v.cache c v.free_pages flags → NoneFor M by_log.ghosts v.log v.map v.shadow name m m' v.cache c v.free_pages flags r → Ends r
-  refused_ends (Why.Device s) edits none = stands_left M short m m' v whole cached c flags _ edits honest k stands name valid stays
-  refused_ends Why.Memory edits none = stands_left M short m m' v whole cached c flags _ edits honest k stands name valid stays
-  refused_ends (Why.Lost a b) edits none =
-      let lost = edits.loses.lost honest in
-      absurd (never_lost v k (M.now m') whole (worn M short m m' v whole cached c flags _ edits honest k stands) edits.loses.page (omega (arith, edits.loses.within, ap (λ (l : Layout). l.pages) whole.log)) a b lost.first lost.second lost.copies)
-  refused_ends (Why.Unsound s) edits (inl bars) = absurd (barred M short m m' v whole cached c flags _ edits honest k stands name valid stays bars)
-  refused_ends (Why.Unsound s) edits (inr lost) = absurd (untaken M short m m' v whole cached c flags _ edits honest k stands name valid stays lost)
-  refused_ends Why.VersionsUsedUp edits (inr (inl bars)) = absurd (barred M short m m' v whole cached c flags _ edits honest k stands name valid stays bars)
-  refused_ends Why.VersionsUsedUp edits (inr (inr lost)) = absurd (untaken M short m m' v whole cached c flags _ edits honest k stands name valid stays lost)
-  refused_ends Why.VersionsUsedUp edits (inl most) = (
-    used_up M short m m' v whole cached c flags _ edits honest k stands name (of_entries M short m m' v whole cached c flags _ edits honest k stands name (λ table. max_u32 < (next_key name table).version) most),
-    stands_left M short m m' v whole cached c flags _ edits honest k stands name valid stays,
-  )
-  refused_ends (Why.NameTableFull n) edits (is, few, usable) = (
-    table_full M short m m' v whole cached c flags _ edits honest k stands name n is few (of_entries M short m m' v whole cached c flags _ edits honest k stands name (λ table. (next_key name table).version ≤ max_u32) usable),
-    stands_left M short m m' v whole cached c flags _ edits honest k stands name valid stays,
-  )
-  refused_ends r edits none = absurd none
+  refused_ends r edits none =
+      refused_by M short m m' v whole cached c flags honest k stands name valid stays (enter_fault (volume_of k) name) (StandsEntered name given bytes draft k (record v { cache = c; free_pages = flags }) (M.now m'))
+      (OfTableIn M by_log.ghosts v.log m m' v.cache v.free_pages (LosesUntaken v.map v.shadow))
+      (OfTableIn M by_log.ghosts v.log m m' v.cache v.free_pages (λ table. max_u32 < (next_key name table).version))
+      (OfTableIn M by_log.ghosts v.log m m' v.cache v.free_pages (λ table. (next_key name table).version ≤ max_u32))
+      (λ told edits lost. untaken M short m m' v whole cached c flags told edits honest k stands name valid stays lost)
+      (λ told edits most. used_up M short m m' v whole cached c flags told edits honest k stands name (of_entries M short m m' v whole cached c flags told edits honest k stands name (λ table. max_u32 < (next_key name table).version) most))
+      (λ told edits n is few usable. table_full M short m m' v whole cached c flags told edits honest k stands name n is few
+      (of_entries M short m m' v whole cached c flags told edits honest k stands name (λ table. (next_key name table).version ≤ max_u32) usable))
+      r edits none
 
 -- ---- as the parts of a volume have it
 

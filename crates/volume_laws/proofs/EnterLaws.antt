@@ -3,7 +3,6 @@ use Rattle.std.proofs.Common.{◌≡◌, ◌⊎◌, inl, inr, ℕ, Bool, true, f
 use Rattle.std.specs.Prelude.{IsFalse, MatchResult, option_map}
 use Rattle.std.proofs.lemmas.Bool.{or_parts}
 use Rattle.std.proofs.lemmas.List.{append-nil}
-use Rattle.fsd_bytes.specs.Keys.{max_u32}
 use Rattle.fsd_bytes.specs.declared.key.Key.{Key}
 use Rattle.fsd_bytes.specs.declared.key.Serial.{Serial}
 use Rattle.fsd_bytes.specs.declared.refusal.Refusal.{Refusal}
@@ -17,7 +16,7 @@ use Rattle.sector_disk.specs.Machine.{Moment}
 use Rattle.fsd_formats.specs.declared.entry.Entry.{Entry}
 use Rattle.fsd_formats.specs.NamePage.{max_keep, sectors_for}
 use Rattle.fsd_log.specs.Scan.{Head}
-use Rattle.fsd_files.specs.Answers.{Met, Outcome, enter_fault, keep_given, least_pages, new_entry, refused, size_fault, with_version}
+use Rattle.fsd_files.specs.Answers.{Met, Outcome, enter_fault, entry_of, keep_given, new_entry, refused, size_fault, with_version}
 use Rattle.fsd_files.specs.Disk.{Sectors, Touches}
 use Rattle.fsd_files.specs.Files.{Change, new_key}
 use Rattle.fsd_files.specs.Pieces.{enter_outcome, enter_unless, undrafted}
@@ -45,7 +44,7 @@ use Rattle.volume_laws.proofs.StepLaws.{comes_behind, comes_more, idle_behind, k
 use Rattle.volume_laws.proofs.StoreLaws.{IsOn, sound_on, touches_then}
 use Rattle.volume_laws.proofs.BehindForce.{unchanged}
 use Rattle.volume_laws.proofs.PutEnds.{enter_keeps}
-use Rattle.volume_laws.proofs.PutLaws.{tests_keep, version_as}
+use Rattle.volume_laws.proofs.PutLaws.{enter_cases, tests_keep, version_as}
 
 -- ---- the steps
 
@@ -307,17 +306,9 @@ module _ (name bytes : List ℕ) (keep : Option ℕ) (e : Entry) (k : Known) whe
 
       -- the look-up says why no version is made
       barred : (why : Refusal) → enter_fault (volume_of p.after) name ≡ Some why → Stands state IsMemoryOf new p.after now → EndsRefused state IsMemoryOf outcome k new now why
-      barred why fault stands = by (nat_lt max_u32 (new_key name (volume_of p.after).files).version) (nat_lt (pages_free (volume_of p.after)) least_pages) fault
-        where
-          by : (b c : Bool) → cond b (Some Why.VersionsUsedUp) (cond c (Some (Why.NameTableFull (pages_free (volume_of p.after)))) None) ≡ Some why → EndsRefused state IsMemoryOf outcome k new now why
-          by true c is =
-              let same : Why.VersionsUsedUp ≡ why = cc is in
-              subst (λ (r : Refusal). EndsRefused state IsMemoryOf outcome k new now r) same (unentered Why.VersionsUsedUp (fault ∙ ap (λ (r : Refusal). Some r) (sym same)) stands)
-          by false true is =
-              let full : Refusal = Why.NameTableFull (pages_free (volume_of p.after)) in
-              let same : full ≡ why = cc is in
-              subst (λ (r : Refusal). EndsRefused state IsMemoryOf outcome k new now r) same (unentered full (fault ∙ ap (λ (r : Refusal). Some r) (sym same)) stands)
-          by false false is = absurd (cc is)
+      barred why fault stands =
+          enter_cases (λ (r : Refusal). AnswersAndStands state IsMemoryOf outcome (Refused r) [] k new now → EndsRefused state IsMemoryOf outcome k new now r) (volume_of p.after) name why (λ ends. ends) (λ ends. ends) fault
+          (unentered why fault stands)
 
       unmade : (why : Refusal) → EndsEntered name keep bytes e p.after new now (Err why) → EndsRefused state IsMemoryOf outcome k new now why
       unmade (Why.Device s) stands = inr (p.after, unchanged k mid at p, stands)
@@ -330,21 +321,21 @@ module _ (name bytes : List ℕ) (keep : Option ℕ) (e : Entry) (k : Known) whe
           let w : Volume = volume_of (with_opened p.after (ended p.after.opened e.runs)) in
           let made : Entry = new_entry w name bytes keep e.runs e.serial in
           record {
-            after = ends.after;
+            after = ends.made.after;
             answers = record {
-              met = met_with ends.reached;
+              met = met_with ends.made.reached;
               forces = refl;
-              is = outcome_is ends.reached
-                  ∙ ap (λ (o : Option Refusal). enter_unless o (volume_of p.after) name bytes keep e.runs e.serial ends.reached) ends.none
-                  ∙ ap (λ (x : Volume). (Made (new_key name (volume_of p.after).files) (total e.runs), with_version x name bytes keep e.runs e.serial ends.reached)) (sym (volume_ended mid p.after at e.runs p.stands))
-                  ∙ (λ i. (Made (sym ends.key_is i) ((count ∙ ap sectors_for long) i), sym ends.volume i));
-              opened = ends.opened ∙ ap (λ o. ended o e.runs) p.opened;
-              windows = ends.windows ∙ p.windows;
-              changes = ends.changes ∙ ap (λ (h : List Change). h ++ Change.Put name keep bytes ∷ []) p.changes;
+              is = outcome_is ends.made.reached
+                  ∙ ap (λ (o : Option Refusal). enter_unless o (volume_of p.after) name bytes keep e.runs e.serial ends.made.reached) ends.none
+                  ∙ ap (λ (x : Volume). (Made (new_key name (volume_of p.after).files) (total e.runs), with_version x name bytes keep e.runs e.serial ends.made.reached)) (sym (volume_ended mid p.after at e.runs p.stands))
+                  ∙ (λ i. (Made (sym ends.key_is i) ((count ∙ ap sectors_for long) i), sym ends.made.volume i));
+              opened = ends.made.opened ∙ ap (λ o. ended o e.runs) p.opened;
+              windows = ends.made.windows ∙ p.windows;
+              changes = ends.made.changes ∙ ap (λ (h : List Change). h ++ Change.Put name keep bytes ∷ []) p.changes;
             };
-            stands = ends.stands;
+            stands = ends.made.stands;
             entry = made;
-            entered = ends.entered;
-            written = version_as (open_damage now.windows) now.image bytes e made refl (sym long) refl ends.written;
+            entered = ap (λ (x : Key). entry_of x (volume_of ends.made.after).entries) ends.key_is ∙ ends.made.entered;
+            written = version_as (open_damage now.windows) now.image bytes e made refl (sym long) refl ends.made.written;
           }
       ends_finished count long (Err why) ends = unmade why ends

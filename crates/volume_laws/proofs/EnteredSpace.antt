@@ -1,5 +1,5 @@
 -- What is free and what waits in a volume with one version more, and how many versions there are then.
-use Rattle.std.proofs.Common.{◌≡◌, inl, inr, ℕ, ◌+◌, ◌<◌, ◌≤◌, Bool, true, false, cond, not, ◌&&◌, ◌||◌, List, [], ◌∷◌, ◌++◌, length, Option, Some, Ordering, refl, sym, ap, subst, ◌∙◌, arith}
+use Rattle.std.proofs.Common.{◌≡◌, inl, inr, ℕ, suc, ◌+◌, ◌<◌, ◌≤◌, Bool, true, false, cond, not, ◌&&◌, ◌||◌, List, [], ◌∷◌, ◌++◌, length, Some, Ordering, refl, sym, ap, subst, ◌∙◌, arith}
 use Rattle.std.specs.Prelude.{IsTrue, nat_le, nat_lt, ◌==◌}
 use Rattle.std.specs.List.{flat_map, list_any}
 use Rattle.std.specs.declared.cmp.Ordering.TheVariants.{Less, Equal, Greater}
@@ -10,7 +10,6 @@ use Rattle.std.proofs.lemmas.List.Folds.{list_any-append}
 use Rattle.volume_layout.specs.declared.layout.Layout.{Layout}
 use Rattle.volume_layout.specs.Layout.{data_start, is_data}
 use Rattle.fsd_bytes.specs.declared.key.Key.{Key}
-use Rattle.fsd_bytes.specs.declared.key.Serial.{Serial}
 use Rattle.fsd_bytes.specs.Keys.{key_cmp, same_key}
 use Rattle.run_table.specs.declared.run.Run.{Run}
 use Rattle.run_table.specs.RunTable.{sectors_of}
@@ -18,8 +17,8 @@ use Rattle.run_table.specs.Space.{contains}
 use Rattle.sector_set.specs.Area.{Area, together}
 use Rattle.sector_set.proofs.FreeLaws.{contains_where, contains_where_outside}
 use Rattle.fsd_formats.specs.declared.entry.Entry.{Entry}
-use Rattle.fsd_files.specs.Answers.{entry_of, entry_put, gone_sectors, new_entry, with_version}
-use Rattle.fsd_files.specs.Files.{gone_keys}
+use Rattle.fsd_files.specs.Answers.{entry_of, entry_put, gone_sectors}
+use Rattle.fsd_files.specs.Files.{Change, step}
 use Rattle.fsd_files.specs.Kept.{Lists}
 use Rattle.fsd_files.specs.Volume.{Volume, entries_at, entries_without, in_version, is_free, is_in, plans_of}
 use Rattle.fsd_files.specs.Waiting.{Changes, is_kept_alone}
@@ -112,15 +111,19 @@ module _ (v w : Volume) (out : List Key) (same : w.layout ≡ v.layout) (removed
 
 -- ---- the volume
 
-module _ (v : Volume) (name bytes : List ℕ) (given : Option ℕ) (runs : List Run) (serial : Serial) (r : ℕ) where
-  abbrev made : Volume
-  made = with_version v name bytes given runs serial r
+-- a change makes this entry more, and these keys go; r pages are reached then
+module _ (v : Volume) (c : Change) (new : Entry) (out : List Key) (r : ℕ) where
+  abbrev pub made : Volume
+  made = record v {
+    files = step v.files c;
+    entries = entries_without out (entry_put new v.entries);
+    removed = v.removed ++ gone_sectors out v.entries;
+    reached = r;
+    unforced = suc v.unforced;
+  }
 
-  abbrev out : List Key
-  out = gone_keys name given bytes v.files
-
-  abbrev new : Entry
-  new = new_entry v name bytes given runs serial
+  abbrev runs : List Run
+  runs = new.runs
 
   module _ (stays : list_any (same_key new.key) out ≡ false) (absent : IsAbsent new.key v.entries) where
     -- what was free and is not taken

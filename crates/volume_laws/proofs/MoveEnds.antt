@@ -45,6 +45,7 @@ use Rattle.volume_laws.proofs.EnterEnds.{none_bars, of_entries, refused_ends}
 use Rattle.volume_laws.proofs.MakingLaws.{with_if}
 use Rattle.volume_laws.proofs.MovedLaws.{count_moved, known_moved, some_moved, sorted, stands_moved}
 use Rattle.volume_laws.proofs.MovedSpace.{HasFile, file_there, key_is}
+use Rattle.volume_laws.proofs.PutLaws.{enter_cases}
 use Rattle.volume_laws.proofs.RangeLaws.{handed}
 use Rattle.volume_laws.proofs.TableLaws.{is_tree, pages_read}
 
@@ -56,15 +57,6 @@ move_none k u now key name few none stands =
     let file = no_file key (volume_of k).files (volume_of k).entries stands.disk.described.lists none in
     answered_none (λ met. move_outcome met (volume_of k) key name) k u now few (λ i. moved (volume_of k) key name 0 (file i) (none i)) stands
 
--- a fault of the definitions is one of these
-fault_cases : (P : Refusal → Type 0) (v : Volume) (name : List ℕ) (why : Refusal) → P Why.VersionsUsedUp → P (Why.NameTableFull (pages_free v)) → enter_fault v name ≡ Some why → P why
-fault_cases P v name why used full is = by (nat_lt max_u32 (new_key name v.files).version) (nat_lt (pages_free v) least_pages) is
-  where
-    by : (b c : Bool) → cond b (Some Why.VersionsUsedUp) (cond c (Some (Why.NameTableFull (pages_free v))) None) ≡ Some why → P why
-    by true c e = let same : Why.VersionsUsedUp ≡ why = cc e in subst P same used
-    by false true e = let same : Why.NameTableFull (pages_free v) ≡ why = cc e in subst P same full
-    by false false e = absurd (cc e)
-
 module _ (k : Known) (u : VolumeValue) (now : Moment) (key : Key) (name : List ℕ) (e : Entry) (few : length k.mounted.dirty ≤ 56) (there : entry_of key (volume_of k).entries ≡ Some e) where
   bars : (why : Refusal) → enter_fault (volume_of k) name ≡ Some why → Stands state IsMemoryOf u k now → AnswersAndStands state IsMemoryOf (λ met. move_outcome met (volume_of k) key name) (Refused why) [] k u now
   bars why fault stands =
@@ -74,7 +66,7 @@ module _ (k : Known) (u : VolumeValue) (now : Moment) (key : Key) (name : List �
 
   fault_ends : (why : Refusal) → enter_fault (volume_of k) name ≡ Some why → Stands state IsMemoryOf u k now → EndsMove key name k u now (Err why)
   fault_ends why fault stands =
-      fault_cases (λ (r : Refusal). enter_fault (volume_of k) name ≡ Some r → EndsMove key name k u now (Err r)) (volume_of k) name why
+      enter_cases (λ (r : Refusal). enter_fault (volume_of k) name ≡ Some r → EndsMove key name k u now (Err r)) (volume_of k) name why
       (λ is. bars Why.VersionsUsedUp is stands) (λ is. bars (Why.NameTableFull (pages_free (volume_of k))) is stands) fault fault
 
   -- a version could not be entered under the name

@@ -1,4 +1,4 @@
--- The place that a put finds is that of the definitions, and without one it is refused as they refuse it.
+-- The place that a put or a load finds is that of the definitions, and without one it is refused as they refuse it.
 use Rattle.std.proofs.Common.{◌≡◌, ◌⊎◌, inl, inr, ℕ, Bool, true, false, cond, ◌&&◌, List, [], nat_lt, Option, Some, None, Err, refl, sym, ap, subst, ◌∙◌, length}
 use Rattle.std.specs.Prelude.{is_none}
 use Rattle.std.proofs.lemmas.List.{append-nil}
@@ -9,7 +9,7 @@ use Rattle.run_table.specs.declared.run.Run.{Run}
 use Rattle.run_table.specs.RunTable.{total}
 use Rattle.run_table.specs.Space.{best, pick}
 use Rattle.sector_disk.specs.Machine.{Moment}
-use Rattle.fsd_files.specs.Answers.{Met, Outcome, keep_given, no_place, put_at, put_outcome, put_unless, refused, size_fault}
+use Rattle.fsd_files.specs.Answers.{Met, Outcome, no_place, refused}
 use Rattle.fsd_files.specs.Disk.{Sectors}
 use Rattle.fsd_files.specs.declared.reply.Reply.TheVariants.{Refused}
 use Rattle.fsd_files.specs.Volume.{Volume, forced, forced_for_place, free_runs, place_for}
@@ -72,43 +72,51 @@ no_place_came s need why (inr (first, inr (passes, inr (drawn, inl within)))) = 
 no_place_came s need why (inr (first, inr (passes, inr (drawn, inr (written, inl (comes, loss)))))) = inl loss
 no_place_came s need why (inr (first, inr (passes, inr (drawn, inr (written, inr (last, none)))))) = absurd none
 
-module _ (s : State) (name bytes : List ℕ) (keep : Option ℕ) (k : Known) (new : VolumeValue) (now : Moment) where
+-- where the definitions refuse without a place
+module _ (s : State) (bytes : List ℕ) (k : Known) (new : VolumeValue) (now : Moment) (outcome : Met → Outcome) where
   abbrev need : ℕ
   need = sectors_for (length bytes)
 
-  abbrev outcome : Met → Outcome
-  outcome met = put_outcome met (volume_of k) name bytes keep
+  abbrev there : Volume
+  there = forced_for_place need (volume_of k)
 
   lost_refused : (why : Refusal) → IsLoss why → EndsPrepare need bytes k new now (Err why) → EndsRefused state IsMemoryOf outcome k new now why
   lost_refused (Why.Device s) loss down = down
   lost_refused (Why.Lost a b) loss none = none
   lost_refused why loss ends = absurd loss
 
-  module _ (sizes : size_fault (keep_given keep) (length bytes) ≡ None) (fits : Fits s k.mounted) (none : place_in s need ≡ None) where
-    answered : (why : Refusal) → no_place_in s (runs_at s need) need ≡ why → StandsFor need k new now → AnswersAndStands state IsMemoryOf outcome (Refused why) [] k new now
-    answered why is p =
+  module _ (placeless : (met : Met) (why : Refusal) → place_for there need ≡ None → no_place there need ≡ why → outcome met ≡ refused there why) (fits : Fits s k.mounted) where
+    answered : place_in s need ≡ None → (why : Refusal) → no_place_in s (runs_at s need) need ≡ why → StandsFor need k new now → AnswersAndStands state IsMemoryOf outcome (Refused why) [] k new now
+    answered none why is p =
         let met : Met = record { forces = forces_by_itself k.mounted; reached = 0; damaged = None; found = []; healed = 0 } in
-        let there = forced_for_place need (volume_of k) in
-        let out : outcome met ≡ refused there why =
-        ap (λ (o : Option Refusal). put_unless o met (volume_of k) name bytes keep) sizes
-        ∙ ap (λ (o : Option (List Run)). put_at met there name bytes keep need o) (place_is s k.mounted need fits ∙ none)
-        ∙ ap (λ (r : Refusal). refused there r) (no_place_is s k.mounted need fits ∙ is) in
+        let out : outcome met ≡ refused there why = placeless met why (place_is s k.mounted need fits ∙ none) (no_place_is s k.mounted need fits ∙ is) in
         (p.after, record { met = met; forces = refl; is = out ∙ ap (λ (v : Volume). refused v why) (sym p.volume); opened = p.opened; windows = p.windows; changes = p.changes ∙ sym (append-nil k.changes) }, p.stands)
 
-    without : (why : Refusal) → no_place_in s (runs_at s need) need ≡ why → EndsPrepare need bytes k new now (Err why) → EndsRefused state IsMemoryOf outcome k new now why
-    without why is ends = subst (λ (r : Refusal). EndsRefused state IsMemoryOf outcome k new now r) is (by (nat_lt (total runs) need) refl (subst (λ (r : Refusal). EndsPrepare need bytes k new now (Err r)) (sym is) ends))
+    without : place_in s need ≡ None → (why : Refusal) → no_place_in s (runs_at s need) need ≡ why → EndsPrepare need bytes k new now (Err why) → EndsRefused state IsMemoryOf outcome k new now why
+    without none why is ends = subst (λ (r : Refusal). EndsRefused state IsMemoryOf outcome k new now r) is (by (nat_lt (total runs) need) refl (subst (λ (r : Refusal). EndsPrepare need bytes k new now (Err r)) (sym is) ends))
       where
         runs : List Run
         runs = runs_at s need
 
         by : (b : Bool) → nat_lt (total runs) need ≡ b → EndsPrepare need bytes k new now (Err (cond b (Why.NoSpace need (total runs)) (Why.TooFragmented need (best runs))))
             → EndsRefused state IsMemoryOf outcome k new now (cond b (Why.NoSpace need (total runs)) (Why.TooFragmented need (best runs)))
-        by true e p = answered (Why.NoSpace need (total runs)) (ap (λ (b : Bool). cond b (Why.NoSpace need (total runs)) (Why.TooFragmented need (best runs))) e) p
-        by false e p = answered (Why.TooFragmented need (best runs)) (ap (λ (b : Bool). cond b (Why.NoSpace need (total runs)) (Why.TooFragmented need (best runs))) e) p
+        by true e p = answered none (Why.NoSpace need (total runs)) (ap (λ (b : Bool). cond b (Why.NoSpace need (total runs)) (Why.TooFragmented need (best runs))) e) p
+        by false e p = answered none (Why.TooFragmented need (best runs)) (ap (λ (b : Bool). cond b (Why.NoSpace need (total runs)) (Why.TooFragmented need (best runs))) e) p
 
-  -- a put that was refused before its look-up ends as the definitions say
-  pub ends_as_put : size_fault (keep_given keep) (length bytes) ≡ None → Fits s k.mounted → (why : Refusal) → Comes (prepare_steps s need) why → EndsPrepare need bytes k new now (Err why) → EndsRefused state IsMemoryOf outcome k new now why
-  ends_as_put sizes fits why comes ends = elim (no_place_came s need why comes) [
-    | inl loss ↦ lost_refused why loss ends
-    | inr gone ↦ without sizes fits gone.0 why gone.1 ends
-  ]
+    -- what was refused before its look-up ends as the definitions say
+    pub ends_unready : (why : Refusal) → Comes (prepare_steps s need) why → EndsPrepare need bytes k new now (Err why) → EndsRefused state IsMemoryOf outcome k new now why
+    ends_unready why comes ends = elim (no_place_came s need why comes) [
+      | inl loss ↦ lost_refused why loss ends
+      | inr gone ↦ without gone.0 why gone.1 ends
+    ]
+
+-- nor does it tell that a version is there
+pub unready_some : (s : State) (need : ℕ) (why : Refusal) → Comes (prepare_steps s need) why → why ≡ Why.Exists → ⊥
+unready_some s need why comes same = elim (no_place_came s need why comes) [
+  | inl loss ↦ subst IsLoss same loss
+  | inr gone ↦ by (nat_lt (total (runs_at s need)) need) (gone.1 ∙ same)
+]
+  where
+    by : (b : Bool) → cond b (Why.NoSpace need (total (runs_at s need))) (Why.TooFragmented need (best (runs_at s need))) ≡ Why.Exists → ⊥
+    by true e = cc e
+    by false e = cc e

@@ -1,8 +1,9 @@
--- A put behind its tests and what comes before its look-up: its entry.
+-- A put or a load behind its tests and what comes before its look-up: its entry.
 use Rattle.std.proofs.Common.{◌≡◌, inl, inr, ℕ, ◌+◌, ◌-◌, ◌^◌, ◌<◌, ◌≤◌, Bool, true, false, cond, ◌||◌, nat_le, nat_lt, List, [], ◌∷◌, ◌++◌, length, Option, Some, None, Result, Ok, Err, refl, sym, ap, subst, ◌∙◌, arith}
-use Rattle.std.specs.Prelude.{IfSome, MatchResult}
+use Rattle.std.specs.Prelude.{⊤, IfSome, MatchResult}
+use Rattle.std.specs.List.{AllByRecursion}
 use Rattle.std.proofs.lemmas.Bool.{leb-false, ltb-false}
-use Rattle.fsd_bytes.specs.Keys.{max_u32}
+use Rattle.std.proofs.lemmas.List.{append-nil}
 use Rattle.fsd_bytes.specs.declared.key.Key.{Key}
 use Rattle.fsd_bytes.specs.declared.key.Serial.{Serial}
 use Rattle.fsd_bytes.specs.declared.refusal.Refusal.{Refusal}
@@ -13,24 +14,26 @@ use Rattle.run_table.specs.RunTable.{total}
 use Rattle.sector_disk.specs.Image.{AreShort, open_damage}
 use Rattle.sector_disk.specs.Machine.{Moment, Wears}
 use Rattle.fsd_log.specs.Scan.{Head}
-use Rattle.fsd_files.specs.Answers.{Met, Outcome, enter_fault, keep_given, least_pages, new_entry, put_outcome, size_fault}
+use Rattle.fsd_files.specs.Answers.{Met, Outcome, enter_fault, keep_given, new_entry, put_outcome, size_fault, with_version}
 use Rattle.fsd_files.specs.Files.{Change, new_key}
-use Rattle.fsd_files.specs.Volume.{Volume, drawn, forced_for_place, forced_if, pages_free}
+use Rattle.fsd_files.specs.Volume.{Volume, drawn, forced_for_place, forced_if}
+use Rattle.fsd_files.specs.declared.reply.Reply.{Reply}
+use Rattle.fsd_files.specs.declared.reply.Reply.TheVariants.{Refused}
 use Rattle.fsd_sound.specs.Mounted.{forces_by_itself}
 use Rattle.fsd_sound.proofs.MountedLaws.{mounted_sound}
 use Rattle.fsd_runs.specs.Runs.{last_count}
-use Rattle.volume_contract.specs.Ends.{EndsPut, EndsRefused, made_key}
-use Rattle.volume_contract.specs.Order.{Comes, Follows, KeepsRefused, PassesTest, Through, put_steps, worn}
+use Rattle.volume_contract.specs.Ends.{AnswersAndStands, EndsPut, EndsRefused, MakesVersion, made_key}
+use Rattle.volume_contract.specs.Order.{Asks, CallStep, Comes, Fetch, Follows, KeepsRefused, LookUp, PassesTest, Test, Through, worn}
 use Rattle.volume_contract.specs.State.{Fits, GoesOn, HasCounted, Known, Leaves, Stands, State, downs, forced_of, forces_first, forces_for_place, put_writes, volume_of}
-use Rattle.volume_laws.specs.Entered.{EndsEntered, KeepsOnEnter, entering_steps}
+use Rattle.volume_laws.specs.Entered.{EndsEntered, EndsMade, KeepsOnEnter, StandsEntered, StandsMade, entering_steps, loading_steps, making_look}
 use Rattle.volume_laws.specs.Placing.{test_steps}
-use Rattle.volume_laws.specs.Preparing.{HasPrepared, Prepares, StandsReady}
+use Rattle.volume_laws.specs.Preparing.{HasPrepared, Prepares, StandsReady, prepare_steps}
 use Rattle.volume_laws.specs.State.{IsMemoryOf, state}
 use Rattle.volume_laws.specs.Volume.{VolumeValue}
 use Rattle.volume_laws.proofs.BehindForce.{fewer_wait, not_worn, same_layout}
 use Rattle.volume_laws.proofs.LogLaws.{logged_still}
 use Rattle.volume_laws.proofs.PrepareLaws.{prepared_counts, prepared_number}
-use Rattle.volume_laws.proofs.PutLaws.{ends_unentered, outcome_made, put_kept, unchanged_ready, version_as}
+use Rattle.volume_laws.proofs.PutLaws.{enter_cases, put_barred, put_kept, put_makes, unchanged_ready, version_as}
 use Rattle.volume_laws.proofs.StoreLaws.{IsOn, on_forced, sound_on}
 use Rattle.volume_laws.specs.WearLaws.{stands_worn}
 
@@ -65,13 +68,32 @@ length_small keep len fits = by (nat_lt max_keep keep) (nat_lt max_length len) r
 
 -- ---- what it is as its look-up begins
 
+-- steps that change nothing where they refuse
+abbrev pub IsPlain : CallStep → Type 0
+IsPlain (Test why) = ⊤
+IsPlain (Asks why) = ⊤
+IsPlain LookUp = ⊤
+IsPlain Fetch = ⊤
+IsPlain step = ⊥
+
+pub plain_keeps : (steps : List CallStep) → AllByRecursion IsPlain steps → (m : State) (why : Refusal) → Comes steps why → KeepsRefused steps why m m
+plain_keeps [] plain m why comes = comes
+plain_keeps (Test o ∷ steps) plain m why (inl here) = inl (here, refl)
+plain_keeps (Test o ∷ steps) plain m why (inr later) = inr (later.0, plain_keeps steps plain.1 m why later.1)
+plain_keeps (Asks r ∷ steps) plain m why (inl here) = inl (here, refl)
+plain_keeps (Asks r ∷ steps) plain m why (inr later) = inr (later.0, plain_keeps steps plain.1 m why later.1)
+plain_keeps (LookUp ∷ steps) plain m why (inl here) = inl (here, refl)
+plain_keeps (LookUp ∷ steps) plain m why (inr later) = inr (later.0, plain_keeps steps plain.1 m why later.1)
+plain_keeps (Fetch ∷ steps) plain m why (inl here) = inl (here, refl)
+plain_keeps (Fetch ∷ steps) plain m why (inr later) = inr (later.0, plain_keeps steps plain.1 m why later.1)
+plain_keeps (step ∷ steps) plain m why comes = absurd plain.0
+
 -- a look-up that refuses leaves it as it was
 pub enter_keeps : (m : State) (why : Refusal) → Comes (entering_steps m) why → KeepsRefused (entering_steps m) why m m
-enter_keeps m why (inl look) = inl (look, refl)
-enter_keeps m why (inr (looked, inl most)) = inr (looked, inl (most, refl))
-enter_keeps m why (inr (looked, inr (fewer, inl full))) = inr (looked, inr (fewer, inl (full, refl)))
-enter_keeps m why (inr (looked, inr (fewer, inr (room, inl fetch)))) = inr (looked, inr (fewer, inr (room, inl (fetch, refl))))
-enter_keeps m why (inr (looked, inr (fewer, inr (room, inr (fetched, none))))) = absurd none
+enter_keeps m why comes = plain_keeps (entering_steps m) (tt, (tt, (tt, (tt, tt)))) m why comes
+
+pub load_keeps : (m : State) (why : Refusal) → Comes (loading_steps m) why → KeepsRefused (loading_steps m) why m m
+load_keeps m why comes = plain_keeps (loading_steps m) (tt, (tt, (tt, (tt, (tt, tt))))) m why comes
 
 module _ (s m : State) (keep : Option ℕ) (len : ℕ) (tests : Through (test_steps s keep len)) (e : Entry) (prepares : Prepares (sectors_for len) s m (Ok e)) where
   still_down : m.down ≡ s.down
@@ -89,24 +111,24 @@ module _ (s m : State) (keep : Option ℕ) (len : ℕ) (tests : Through (test_st
 
   -- ---- the version is entered, or it is as it was
 
-  module _ (t : State) where
-    abbrev Entered : Result Key Refusal → Type 0
-    Entered r = MatchResult r (λ key. KeepsOnEnter m t) (λ why. t ≡ m)
+  module _ {T : Type 0} (t : State) where
+    abbrev Entered : Result T Refusal → Type 0
+    Entered r = MatchResult r (λ x. KeepsOnEnter m t) (λ why. t ≡ m)
 
-    pub put_counts : (r : Result Key Refusal) → Follows (entering_steps m) r → Entered r
-        → MatchResult r (λ key. HasCounted true (forces_for_place s (sectors_for len) || forces_first s) s t) (λ why. KeepsRefused (put_steps s keep len) why s t)
-    put_counts (Ok key) follows enters =
+    pub put_counts : (asks : List CallStep) → ((why : Refusal) → Comes (making_look asks m) why → KeepsRefused (making_look asks m) why m m) → (r : Result T Refusal) → Follows (making_look asks m) r → Entered r
+        → MatchResult r (λ x. HasCounted true (forces_for_place s (sectors_for len) || forces_first s) s t) (λ why. KeepsRefused (test_steps s keep len ++ prepare_steps s (sectors_for len) ++ making_look asks s) why s t)
+    put_counts asks keeps (Ok x) follows enters =
         let counts = prepared_counts s m (sectors_for len) prepares.kept.went in
         record {
           count = ap (λ (x : Serial). x.count) enters.serial ∙ counts.count;
           number = ap (λ (h : Head). h.number) enters.head ∙ counts.number;
           log = logged_still m t (record { anchor = enters.anchor; head = enters.head; slots = enters.slots }) (forces_for_place s (sectors_for len) || forces_first s) s counts.log;
         }
-    put_counts (Err why) comes same =
-        put_kept s keep len tests m prepares.kept.went t why (subst (λ (x : State). KeepsRefused (entering_steps m) why m x) (sym same) (enter_keeps m why comes))
+    put_counts asks keeps (Err why) comes same =
+        put_kept asks s keep len tests m prepares.kept.went t why (subst (λ (x : State). KeepsRefused (making_look asks m) why m x) (sym same) (keeps why comes))
 
-    pub put_goes : (r : Result Key Refusal) → Entered r → GoesOn (downs r) s t
-    put_goes (Ok key) enters = record {
+    pub put_goes : (r : Result T Refusal) → Entered r → GoesOn (downs r) s t
+    put_goes (Ok x) enters = record {
       layout = enters.layout ∙ prepares.state.layout;
       epoch = ap (λ (x : Serial). x.epoch) enters.serial ∙ prepares.state.epoch;
       readers = enters.readers ∙ prepares.state.readers;
@@ -121,12 +143,12 @@ module _ (s m : State) (keep : Option ℕ) (len : ℕ) (tests : Through (test_st
       down = inl (ap (λ (x : State). x.down) same ∙ still_down);
     }
 
-    pub slots_stay : (r : Result Key Refusal) → Entered r → t.slots ≡ m.slots
-    slots_stay (Ok key) enters = enters.slots
+    pub slots_stay : (r : Result T Refusal) → Entered r → t.slots ≡ m.slots
+    slots_stay (Ok x) enters = enters.slots
     slots_stay (Err why) same = ap (λ (x : State). x.slots) same
 
-    pub layout_stays : (r : Result Key Refusal) → Entered r → t.layout ≡ m.layout
-    layout_stays (Ok key) enters = enters.layout
+    pub layout_stays : (r : Result T Refusal) → Entered r → t.layout ≡ m.layout
+    layout_stays (Ok x) enters = enters.layout
     layout_stays (Err why) same = ap (λ (x : State). x.layout) same
 
 -- ---- what a stop leaves
@@ -159,52 +181,59 @@ module _ (v mid : VolumeValue) (need : ℕ) (old now left : Moment) (short : Are
 
 -- ---- how it ends
 
+abbrev pub met_with : Known → ℕ → Met
+met_with k reached = record { forces = forces_by_itself k.mounted; reached = reached; damaged = None; found = []; healed = 0 }
+
+-- by definitions that come to the same look-up
+module _ (outcome : Met → Outcome) (k : Known) (need : ℕ) (mid : VolumeValue) (at : Moment) (p : StandsReady need k mid at) (new : VolumeValue) (now : Moment) where
+  -- the look-up says why no version is made
+  pub ends_barred : (why : Refusal) → outcome (met_with k 0) ≡ (Refused why, volume_of p.after) → Stands state IsMemoryOf new p.after now → AnswersAndStands state IsMemoryOf outcome (Refused why) [] k new now
+  ends_barred why says stands = (p.after, record { met = met_with k 0; forces = refl; is = says; opened = p.opened; windows = p.windows; changes = p.changes ∙ sym (append-nil k.changes) }, stands)
+
+  pub ends_unmade : (fault : Option Refusal) → ((why : Refusal) → fault ≡ Some why → Stands state IsMemoryOf new p.after now → EndsRefused state IsMemoryOf outcome k new now why) → {T : Type 0} (Makes : T → Type 0) (why : Refusal)
+      → EndsMade fault Makes p.after new now (Err why) → EndsRefused state IsMemoryOf outcome k new now why
+  ends_unmade fault bars Makes (Why.Device s) stands = inr (p.after, unchanged_ready k need mid at p, stands)
+  ends_unmade fault bars Makes Why.Memory stands = (p.after, unchanged_ready k need mid at p, stands)
+  ends_unmade fault bars Makes why ends = bars why ends.0 ends.1
+
+  -- a version is made
+  pub makes_version : (change : Change) (becomes : ℕ → Volume) (made draft : Entry) (bytes : List ℕ) (reply : Reply) → made.serial ≡ draft.serial → made.length ≡ draft.length → made.runs ≡ draft.runs
+      → ((reached : ℕ) → outcome (met_with k reached) ≡ (reply, becomes reached)) → StandsMade change becomes made bytes draft p.after new now → MakesVersion state IsMemoryOf outcome reply bytes change k new now made.key
+  makes_version change becomes made draft bytes reply serial long runs says ends = record {
+    after = ends.after;
+    answers = record {
+      met = met_with k ends.reached;
+      forces = refl;
+      is = says ends.reached ∙ ap (λ (w : Volume). (reply, w)) (sym ends.volume);
+      opened = ends.opened ∙ p.opened;
+      windows = ends.windows ∙ p.windows;
+      changes = ends.changes ∙ ap (λ (h : List Change). h ++ change ∷ []) p.changes;
+    };
+    stands = ends.stands;
+    entry = made;
+    entered = ends.entered;
+    written = version_as (open_damage now.windows) now.image bytes draft made serial long runs ends.written;
+  }
+
+-- ---- a put
+
 module _ (v mid : VolumeValue) (name bytes : List ℕ) (keep : Option ℕ) (k : Known) (old at : Moment) (e : Entry) (sizes : size_fault (keep_given keep) (length bytes) ≡ None) (fits : Fits (state v) k.mounted)
     (has : HasPrepared (sectors_for (length bytes)) (state v) (state mid) e) (p : StandsReady (sectors_for (length bytes)) k mid at) (new : VolumeValue) (now : Moment) where
   abbrev outcome : Met → Outcome
   outcome met = put_outcome met (volume_of k) name bytes keep
 
-  abbrev met_with : ℕ → Met
-  met_with reached = record { forces = forces_by_itself k.mounted; reached = reached; damaged = None; found = []; healed = 0 }
+  abbrev need : ℕ
+  need = sectors_for (length bytes)
 
-  -- the look-up says why no version is made
   unentered : (why : Refusal) → enter_fault (volume_of p.after) name ≡ Some why → Stands state IsMemoryOf new p.after now → EndsRefused state IsMemoryOf outcome k new now why
-  unentered why fault stands = by (nat_lt max_u32 (new_key name (volume_of p.after).files).version) (nat_lt (pages_free (volume_of p.after)) least_pages) fault
-    where
-      by : (b c : Bool) → cond b (Some Why.VersionsUsedUp) (cond c (Some (Why.NameTableFull (pages_free (volume_of p.after)))) None) ≡ Some why → EndsRefused state IsMemoryOf outcome k new now why
-      by true c is =
-          let same : Why.VersionsUsedUp ≡ why = cc is in
-          subst (λ (r : Refusal). EndsRefused state IsMemoryOf outcome k new now r) same
-          (ends_unentered v name bytes keep k e.runs sizes fits has.place (met_with 0) refl p.after p.volume new now Why.VersionsUsedUp p.opened p.windows p.changes (fault ∙ ap (λ (r : Refusal). Some r) (sym same)) stands)
-      by false true is =
-          let full : Refusal = Why.NameTableFull (pages_free (volume_of p.after)) in
-          let same : full ≡ why = cc is in
-          subst (λ (r : Refusal). EndsRefused state IsMemoryOf outcome k new now r) same
-          (ends_unentered v name bytes keep k e.runs sizes fits has.place (met_with 0) refl p.after p.volume new now full p.opened p.windows p.changes (fault ∙ ap (λ (r : Refusal). Some r) (sym same)) stands)
-      by false false is = absurd (cc is)
-
-  refused : (why : Refusal) → EndsEntered name keep bytes e p.after new now (Err why) → EndsRefused state IsMemoryOf outcome k new now why
-  refused (Why.Device s) stands = inr (p.after, unchanged_ready v name bytes keep k (sectors_for (length bytes)) mid at p, stands)
-  refused Why.Memory stands = (p.after, unchanged_ready v name bytes keep k (sectors_for (length bytes)) mid at p, stands)
-  refused why ends = unentered why ends.0 ends.1
+  unentered why fault stands =
+      enter_cases (λ (r : Refusal). AnswersAndStands state IsMemoryOf outcome (Refused r) [] k new now → EndsRefused state IsMemoryOf outcome k new now r) (volume_of p.after) name why (λ ends. ends) (λ ends. ends) fault
+      (ends_barred outcome k need mid at p new now why (put_barred name bytes keep k v e.runs sizes fits has.place (met_with k 0) refl p.after p.volume why fault) stands)
 
   pub put_ends : total e.runs ≡ sectors_for (length bytes) → e.length ≡ length bytes → (r : Result Key Refusal) → EndsEntered name keep bytes e p.after new now r → EndsPut state IsMemoryOf outcome bytes (Change.Put name keep bytes) k new now r
   put_ends count long (Ok key) ends =
-      let made : Entry = new_entry (volume_of p.after) name bytes keep e.runs e.serial in
-      record {
-        after = ends.after;
-        answers = record {
-          met = met_with ends.reached;
-          forces = refl;
-          is = outcome_made v name bytes keep k e.runs sizes fits has.place (met_with ends.reached) refl p.after p.volume key e.serial has.serial ends.none ends.key_is count
-              ∙ ap (λ (w : Volume). (made_key (length bytes) key, w)) (sym ends.volume);
-          opened = ends.opened ∙ p.opened;
-          windows = ends.windows ∙ p.windows;
-          changes = ends.changes ∙ ap (λ (h : List Change). h ++ Change.Put name keep bytes ∷ []) p.changes;
-        };
-        stands = ends.stands;
-        entry = made;
-        entered = ends.entered;
-        written = version_as (open_damage now.windows) now.image bytes e made refl (sym long) refl ends.written;
-      }
-  put_ends count long (Err why) ends = refused why ends
+      subst (λ (x : Key). MakesVersion state IsMemoryOf outcome (made_key (length bytes) x) bytes (Change.Put name keep bytes) k new now x) (sym ends.key_is)
+      (makes_version outcome k need mid at p new now (Change.Put name keep bytes) (λ r. with_version (volume_of p.after) name bytes keep e.runs e.serial r) (new_entry (volume_of p.after) name bytes keep e.runs e.serial) e bytes
+      (made_key (length bytes) (new_key name (volume_of p.after).files)) refl (sym long) refl
+      (λ reached. put_makes name bytes keep k v e.runs sizes fits has.place (met_with k reached) refl p.after p.volume e.serial has.serial ends.none count) ends.made)
+  put_ends count long (Err why) ends = ends_unmade outcome k need mid at p new now (enter_fault (volume_of p.after) name) unentered (StandsEntered name keep bytes e p.after new now) why ends
