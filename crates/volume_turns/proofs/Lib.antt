@@ -20,6 +20,7 @@ pub mod HealLaws
 pub mod InputLaws
 pub mod LastLaws
 pub mod LineLaws
+pub mod LoadingLaws
 pub mod ListLaws
 pub mod MountLaws
 pub mod NumberLaws

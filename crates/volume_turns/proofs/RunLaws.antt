@@ -333,6 +333,13 @@ module _ {S D : Type 0} (state : S → State) (has : S → Mounted → List Plac
     }
     step_fault why does more = absurd does
 
+    pub step_fault_mets : (why : Fault) (does : DoesIn state has command v w k (M.now a) (M.now m) (Err why)) (more : List ScriptCommand) → (step_fault why does more).mets ≡ []
+    unfolding step_fault
+    step_fault_mets (Ends.Device s) does more = refl
+    step_fault_mets Ends.Memory does more = refl
+    step_fault_mets Ends.WornOut does more = refl
+    step_fault_mets why does more = absurd does
+
 -- ---- commands one after another
 
 module _ {H : Sectors} {P Q : Moment → Type 0} (wider : (c : Moment) → P c → Q c) where

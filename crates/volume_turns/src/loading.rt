@@ -22,7 +22,7 @@ use sector_disk::Machine;
 use volume_contract::Files;
 
 // The bytes of a version that the input has.
-fn bytes_of(input: &[u8], item: &Item) -> &[u8]
+fn bytes_of<'a>(input: &'a [u8], item: &Item) -> &'a [u8]
     ensures { result.now ≡ (dumped input.now item.now).bytes }
 {
     let rest = &input[item.start.min(input.len())..];
