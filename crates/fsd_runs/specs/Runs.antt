@@ -167,11 +167,11 @@ abbrev pub IsRestoredSo : Cut → List Answered → Type 0
 IsRestoredSo (Some (ByRefusal k)) done = RefusesLast k done
 IsRestoredSo cut done = first_refusal done ≡ None
 
--- A dump is whole only where no data sector of its versions was damaged as it began. It tells those that it has met at
+-- Once its head is said, no data sector of its versions was damaged as a dump began. It tells those that it has met at
 -- its first reading, at an image of the run at which nothing was said; and ends behind the versions in front of one with
 -- a sector that was whole then and is damaged at an image at which these were said.
 abbrev pub IsDumpedSo : Serial → Cut → (Passed : Moment → Type 0) → (base : List ℕ) → Volume → Image → Type 0
-IsDumpedSo since None Passed base v i = AreWhole i (chosen since v.entries)
+IsDumpedSo since None Passed base v i = (m : Moment) (more : List ℕ) → Passed m → m.said ≡ base ++ (concat (take 1 (dump_of since v)) ++ more) → AreWhole i (chosen since v.entries)
 IsDumpedSo since (Some (Damages found)) Passed base v i = IsFalse (length found == 0) × ((j : Image) × StoodAt Passed base j × Picks i j (all_data (chosen since v.entries)) found)
 IsDumpedSo since (Some (BySector k s)) Passed base v i =
     AreWhole i (chosen since v.entries) × ((j : Image) × StoodAt Passed (base ++ concat (take (suc k) (dump_of since v))) j × IsSpoiltAt j (chosen since v.entries) k s)

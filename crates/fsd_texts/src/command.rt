@@ -3,6 +3,7 @@ ghost use Rattle.std.specs.Prelude.{◌≡◌};
 ghost use Rattle.fsd_texts.specs.Script.{lone_in, lone_words};
 
 use crate::bytes::Bytes;
+use crate::numbered_key::NumberedKey;
 use fsd_bytes::{FileName, Key, Pattern};
 
 /// What may be asked of a volume.
@@ -27,7 +28,7 @@ pub enum Command {
     },
     /// A version of this key, where there is none. No line of a script asks for it.
     Load {
-        key: Key,
+        key: NumberedKey,
         keep: u32,
         bytes: Bytes,
     },

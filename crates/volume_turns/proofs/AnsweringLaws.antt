@@ -34,13 +34,13 @@ use Rattle.scrub.proofs.LeadLaws.{touches_then, worn_touches}
 use Rattle.volume_turns.specs.declared.turns.Halt.{Halt}
 use Rattle.volume_turns.specs.declared.turns.Halt.TheVariants.{Fault as Stopped, Output}
 use Rattle.volume_turns.specs.Answering.{MayAnswer, AnswersAlone, ClosesBy, EndsOne, RunsOne, SaysBy, SaysNoReply, SaysOne, SaysReply}
-use Rattle.volume_turns.specs.Commands.{HasDamaged, KeepsState, LacksRoom, MayLose, MayReply, RefusesPut, WritesBehind, WritesForce, may_write}
+use Rattle.volume_turns.specs.Commands.{HasDamaged, KeepsState, LacksRoom, MayLose, MayReply, WritesBehind, WritesForce, may_write}
 use Rattle.volume_turns.specs.Once.{unit_of}
 use Rattle.volume_turns.specs.Line.{EndsWith}
 use Rattle.volume_turns.specs.Steps.{IsToldOn, ended_by, read_ended_by}
 use Rattle.volume_turns.specs.Syncs.{SyncsOnce}
 use Rattle.volume_turns.specs.Turns.{KeepsSaid, SaysAll, Unsaid}
-use Rattle.volume_turns.proofs.OrderLaws.{edit_rest, few_best, keep_small, move_rest, put_rest, sizeless, starts_up, steps_of}
+use Rattle.volume_turns.proofs.OrderLaws.{edit_rest, few_best, keep_small, load_rest, make_rest, move_rest, put_rest, sizeless, starts_up, steps_of, table_rest}
 use Rattle.volume_turns.proofs.StatusLaws.{look_up_ends, loss_looks}
 use Rattle.volume_turns.proofs.ToldLaws.{told_may}
 
@@ -119,59 +119,63 @@ module _ (P : Reply → Type 0) (why : Refusal) where
   asked : (x : Refusal) → P (Said.Refused x) → why ≡ x → Holds
   asked x said is = said_or_fault P why (subst (λ (w : Refusal). P (Said.Refused w)) (sym is) said)
 
--- ---- a put
+-- ---- a version that is made
 
-module _ (s : State) (up : s.down ≡ None) (name bytes : List ℕ) (keep : Option ℕ) (i : Image) (why : Refusal) where
+-- where room is wanting, this may be replied
+module _ (s : State) (up : s.down ≡ None) (size : Option Refusal) (len : ℕ) (P : Reply → Type 0) (why : Refusal) (lacks : (x : Refusal) → size ≡ None → LacksRoom len x → P (Said.Refused x)) where
   abbrev need : ℕ
-  need = sectors_for (length bytes)
+  need = sectors_for len
 
-  abbrev size : Option Refusal
-  size = size_fault (keep_given keep) (length bytes)
+  abbrev Fits : Type 0
+  Fits = IfOk (ended_by why) P
 
-  abbrev Fits : Reply → Type 0
-  Fits a = MayReply (Word.Put name bytes keep) i a
-
-  no_place : is_none (place_in s need) ≡ true → (b : Bool) → nat_lt (total (runs_at s need)) need ≡ b → LacksRoom (length bytes) (cond b (Why.NoSpace need (total (runs_at s need))) (Why.TooFragmented need (best (runs_at s need))))
+  no_place : is_none (place_in s need) ≡ true → (b : Bool) → nat_lt (total (runs_at s need)) need ≡ b → LacksRoom len (cond b (Why.NoSpace need (total (runs_at s need))) (Why.TooFragmented need (best (runs_at s need))))
   no_place none true is = (refl, ltb-true (total (runs_at s need)) need is)
   no_place none false is = (refl, few_best s need none)
 
-  few_pages : (b : Bool) → nat_lt (length s.free_pages) least_pages ≡ b → cond b (Some (Why.NameTableFull (length s.free_pages))) None ≡ Some why → size ≡ None → IfOk (ended_by why) Fits
-  few_pages true is at none = let same : Why.NameTableFull (length s.free_pages) ≡ why = cc at in
-      said_or_fault Fits why (subst (λ (w : Refusal). RefusesPut keep (length bytes) w) same (inr (none, ltb-true (length s.free_pages) least_pages is)))
-  few_pages false is at none = absurd (cc at)
+  few_pages : size ≡ None → (b : Bool) → nat_lt (length s.free_pages) least_pages ≡ b → cond b (Some (Why.NameTableFull (length s.free_pages))) None ≡ Some why → Fits
+  few_pages none b is at = tests P why b (Why.NameTableFull (length s.free_pages)) (λ e. lacks (Why.NameTableFull (length s.free_pages)) none (ltb-true (length s.free_pages) least_pages (is ∙ e))) at
 
-  room : size ≡ None → Each why (IfOk (ended_by why) Fits) (put_rest s need)
-  room none = (
-    λ x. losses Fits why x.1,
-    (
-      λ x. tests Fits why (is_none (place_in s need)) (no_place_in s (runs_at s need) need) (λ e. inr (none, no_place e (nat_lt (total (runs_at s need)) need) refl)) x,
-      (
-        λ x. absurd x,
-        (
-          λ x. looks Fits why (placed Fits why (in_place (place_in s need)) why x),
-          (
-            λ x. losses Fits why x.1,
-            (
-              λ x. looks Fits why x,
-              (
-                λ x. asked Fits why Why.VersionsUsedUp (inr (none, tt)) x,
-                (
-                  λ x. few_pages (nat_lt (length s.free_pages) least_pages) refl x none,
-                  (λ x. looks Fits why (fetches Fits why why x), tt),
-                ),
-              ),
-            ),
-          ),
-        ),
-      ),
-    ),
+  pub table_room : size ≡ None → Each why Fits (table_rest s)
+  table_room none = (
+    λ x. asked P why Why.VersionsUsedUp (lacks Why.VersionsUsedUp none tt) x,
+    (λ x. few_pages none (nat_lt (length s.free_pages) least_pages) refl x, (λ x. looks P why (fetches P why why x), tt)),
   )
 
-  pub put_refused : Comes (steps_of s size (put_rest s need)) why → IfOk (ended_by why) Fits
-  put_refused comes = elim (starts_up s up (Test size ∷ worn s ∷ put_rest s need) why comes) [
-    | inl is ↦ said_or_fault Fits why (inl is)
-    | inr later ↦ elim later.1 [ inl worn ↦ worn_out Fits why (is_worn s) worn | inr last ↦ each why (IfOk (ended_by why) Fits) (put_rest s need) (room later.0) last.1 ]
-  ]
+  module _ (behind : List CallStep) (refused : size ≡ Some why → P (Said.Refused why)) (ends : size ≡ None → Each why Fits behind) where
+    room : size ≡ None → Each why Fits (make_rest s need behind)
+    room none = (
+      λ x. losses P why x.1,
+      (
+        λ x. tests P why (is_none (place_in s need)) (no_place_in s (runs_at s need) need) (λ e. lacks (no_place_in s (runs_at s need) need) none (no_place e (nat_lt (total (runs_at s need)) need) refl)) x,
+        (
+          λ x. absurd x,
+          (λ x. looks P why (placed P why (in_place (place_in s need)) why x), (λ x. losses P why x.1, (λ x. looks P why x, ends none))),
+        ),
+      ),
+    )
+
+    pub making_refused : Comes (steps_of s size (make_rest s need behind)) why → Fits
+    making_refused comes = elim (starts_up s up (Test size ∷ worn s ∷ make_rest s need behind) why comes) [
+      | inl is ↦ said_or_fault P why (refused is)
+      | inr later ↦ elim later.1 [ inl worn ↦ worn_out P why (is_worn s) worn | inr last ↦ each why Fits (make_rest s need behind) (room later.0) last.1 ]
+    ]
+
+module _ (s : State) (up : s.down ≡ None) (bytes : List ℕ) (i : Image) (why : Refusal) where
+  pub put_refused : (name : List ℕ) (keep : Option ℕ) → Comes (steps_of s (size_fault (keep_given keep) (length bytes)) (put_rest s (sectors_for (length bytes)))) why → IfOk (ended_by why) (λ a. MayReply (Word.Put name bytes keep) i a)
+  put_refused name keep comes =
+      let size = size_fault (keep_given keep) (length bytes) in
+      let P : Reply → Type 0 = λ a. MayReply (Word.Put name bytes keep) i a in
+      let lacks : (x : Refusal) → size ≡ None → LacksRoom (length bytes) x → P (Said.Refused x) = λ x none lack. inr (none, lack) in
+      making_refused s up size (length bytes) P why lacks (table_rest s) (λ is. inl is) (table_room s up size (length bytes) P why lacks) comes
+
+  pub load_refused : (key : Key) (keep : ℕ) → Comes (steps_of s (size_fault keep (length bytes)) (load_rest s (sectors_for (length bytes)))) why → IfOk (ended_by why) (λ a. MayReply (Word.Load key keep bytes) i a)
+  load_refused key keep comes =
+      let size = size_fault keep (length bytes) in
+      let P : Reply → Type 0 = λ a. MayReply (Word.Load key keep bytes) i a in
+      let lacks : (x : Refusal) → size ≡ None → LacksRoom (length bytes) x → P (Said.Refused x) = λ x none lack. inr (none, inr lack) in
+      making_refused s up size (length bytes) P why lacks (Asks Why.Exists ∷ table_rest s) (λ is. inl is)
+          (λ none. (λ x. asked P why Why.Exists (inr (none, inl refl)) x, table_room s up size (length bytes) P why lacks none)) comes
 
 -- ---- a version taken out, a keep, and what is read
 
@@ -309,11 +313,16 @@ force_rest : (s t : State) (a m b : Moment) → m.windows ≡ a.windows → t.la
 force_rest s t a m b windows layout first closing =
     touches_then (force_writes s.layout) (force_writes t.layout) (force_writes s.layout) a m b (λ x out. out) (λ x out. subst (λ (l : Layout). IsFalse (force_writes l x)) (sym layout) out) windows first closing
 
+-- and where it writes a version too
+made_rest : (need : ℕ) (s t : State) (a m b : Moment) → m.windows ≡ a.windows → t.layout ≡ s.layout → Touches (put_writes s need) a m → Touches (force_writes t.layout) m b → Touches (put_writes s need) a b
+made_rest need s t a m b windows layout first closing =
+    let may = put_writes s need in
+    touches_then may (force_writes t.layout) may a m b (λ x out. out) (λ x out. subst (λ (l : Layout). IsFalse (force_writes l x)) (sym layout) (or_left (force_writes s.layout x) (in_place (place_in s need) x) out)) windows first closing
+
 alone_rest : (command : Command) (s t : State) (a m b : Moment) → m.windows ≡ a.windows → t.layout ≡ s.layout → KeepsState command s t → s.dirty ≡ [] → Touches (may_write command s) a m → Touches (force_writes t.layout) m b → (t.dirty ≡ [] → Touches nowhere m b)
     → Touches (may_write command s) a b
-alone_rest (Word.Put name bytes keep) s t a m b windows layout still none first closing quiet =
-    let may = put_writes s (sectors_for (length bytes)) in
-    touches_then may (force_writes t.layout) may a m b (λ x out. out) (λ x out. subst (λ (l : Layout). IsFalse (force_writes l x)) (sym layout) (or_left (force_writes s.layout x) (in_place (place_in s (sectors_for (length bytes))) x) out)) windows first closing
+alone_rest (Word.Put name bytes keep) s t a m b windows layout still none first closing quiet = made_rest (sectors_for (length bytes)) s t a m b windows layout first closing
+alone_rest (Word.Load key keep bytes) s t a m b windows layout still none first closing quiet = made_rest (sectors_for (length bytes)) s t a m b windows layout first closing
 alone_rest (Word.Delete key) s t a m b windows layout still none first closing quiet = force_rest s t a m b windows layout first closing
 alone_rest (Word.Keep name keep) s t a m b windows layout still none first closing quiet = force_rest s t a m b windows layout first closing
 alone_rest (Word.Move key name) s t a m b windows layout still none first closing quiet = force_rest s t a m b windows layout first closing
@@ -395,6 +404,7 @@ behind_mount (Word.Put name bytes keep) sectors s a m b found windows rest = tt
 behind_mount (Word.Delete key) sectors s a m b found windows rest = found_force sectors s a m b found rest
 behind_mount (Word.Keep name keep) sectors s a m b found windows rest = found_force sectors s a m b found rest
 behind_mount (Word.Move key name) sectors s a m b found windows rest = found_force sectors s a m b found rest
+behind_mount (Word.Load key keep bytes) sectors s a m b found windows rest = tt
 behind_mount Word.Force sectors s a m b found windows rest = found_force sectors s a m b found rest
 behind_mount Word.Tick sectors s a m b found windows rest = found_force sectors s a m b found rest
 behind_mount Word.Scrub sectors s a m b found windows rest = inr (record { seen = found.seen; from = found.from; layout = s.layout; anchor = found.anchor; found = found.found; left = found.left }, rest)
@@ -406,6 +416,7 @@ behind_nothing (Word.Put name bytes keep) sectors a m b ages = tt
 behind_nothing (Word.Delete key) sectors a m b ages = inl ages
 behind_nothing (Word.Keep name keep) sectors a m b ages = inl ages
 behind_nothing (Word.Move key name) sectors a m b ages = inl ages
+behind_nothing (Word.Load key keep bytes) sectors a m b ages = tt
 behind_nothing Word.Force sectors a m b ages = inl ages
 behind_nothing Word.Tick sectors a m b ages = inl ages
 behind_nothing Word.Scrub sectors a m b ages = inl ages

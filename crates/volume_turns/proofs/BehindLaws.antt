@@ -9,6 +9,8 @@ use Rattle.sector_disk.specs.Machine.{LeavesOnly, Trusts, Utters}
 use Rattle.sector_disk.proofs.Holding.{trusts_on}
 use Rattle.fsd_files.specs.Desk.{Session}
 use Rattle.fsd_log.specs.Scan.{Placed}
+use Rattle.fsd_files.specs.Volume.{Volume}
+use Rattle.fsd_runs.specs.Sessions.{session_over}
 use Rattle.fsd_sound.specs.Lost.{AreCopiesOn, LostIn}
 use Rattle.fsd_sound.specs.Mounted.{Mounted}
 use Rattle.fsd_sound.specs.Mounting.{device_of_mount}
@@ -31,7 +33,7 @@ use Rattle.volume_turns.specs.Once.{end_by_mount}
 use Rattle.volume_turns.specs.Status.{CountsRun, CountsTaking}
 use Rattle.volume_turns.specs.Steps.{IsOfVolume}
 use Rattle.volume_turns.specs.Turns.{OnDisk}
-use Rattle.volume_turns.specs.Whole.{RunsOut}
+use Rattle.volume_turns.specs.Whole.{GoesUnsaid, RunsOut}
 use Rattle.volume_turns.proofs.AnsweringLaws.{fault_alone, run_mounted, run_refused}
 use Rattle.volume_turns.proofs.CauseLaws.{MaySpend, input_since, tells_mounted, tells_refused}
 use Rattle.volume_turns.proofs.HealLaws.{heals_mounted}
@@ -166,9 +168,9 @@ module _ {D : Type 0} {M : Ghosts D} {sectors : ℕ} {fault : MountFault} {why :
   -- over a sound disk
   pub refused_leaves : {S : Type 0} (state : S → State) (has : S → Mounted → List Placed → Type 0) (request : Request) (input rest : List ℕ) (was : Was) → M.honest b → (M.honest m → AreShort (M.now m).windows)
       → ((y : D) (t : ℕ) → M.honest y → t ≤ M.moment y → M.left_since y t (M.now y)) → ((y : D) → M.honest y → IsTimed M y) → IsSoundAt sectors was.layout was.windows was.changes was.forced (M.now a) → IsHeld M a (λ c. IsSoundAsSaid was.layout was.windows was.changes was.forced (M.now a).image c.image)
-      → MountsSound state has was.layout was.windows was.changes was.forced (M.left_since m) (M.moment a) (λ P. LeavesOnly M.moment M.left_since a m P) (M.now a) (M.now m) (Err fault) → ((s : Session) → IsSome (slice_get (turns_of (errand_of request input) [] s) 0))
+      → MountsSound state has was.layout was.windows was.changes was.forced (M.left_since m) (M.moment a) (λ P. LeavesOnly M.moment M.left_since a m P) (M.now a) (M.now m) (Err fault) → ((v : Volume) → IsSome (slice_get (turns_of (errand_of request input v) [] (session_over v)) 0)) → GoesUnsaid request
       → LeavesRun M request input rest was a b status
-  refused_leaves state has request input rest was honest short counts_now timed at held sound some =
+  refused_leaves state has request input rest was honest short counts_now timed at held sound some unsaid =
       let back = x.says.trust.honest honest in
       let first = x.disk.trust.honest back in
       let says = subst (λ (w : Fault). LeavesDisk M false (is_unsaid status) (Utters (fault_text w)) m b) x.is x.says in
@@ -176,5 +178,5 @@ module _ {D : Type 0} {M : Ghosts D} {sectors : ℕ} {fault : MountFault} {why :
         sound.0,
         sound.1,
         refused_run state has M request input rest sound.0 was.windows was.changes was.forced a m b at.ends fault (x.disk.quiet back) x.disk.uses x.disk.faults status says honest (short back) ended
-            (timed a first) (timed m back) (timed b honest) (x.disk.since back) (λ c left. held c left sound.0 sound.1) (counts_now b (M.moment m) honest (x.says.any_moment honest).later) some sound.2,
+            (timed a first) (timed m back) (timed b honest) (x.disk.since back) (λ c left. held c left sound.0 sound.1) (counts_now b (M.moment m) honest (x.says.any_moment honest).later) some unsaid sound.2,
       )

@@ -19,7 +19,7 @@ use Rattle.fsd_texts.specs.declared.line.Line.{Line}
 use Rattle.fsd_texts.specs.declared.line.Line.TheVariants as Says
 use Rattle.fsd_texts.specs.Generator.{made_up}
 use Rattle.fsd_runs.specs.declared.request.Request.TheVariants.{Generate}
-use Rattle.fsd_runs.specs.Errands.{Answered, Ending, Turn, blank, cut_ending, errand_of, forced_turn, generated_line, group_ending, line_turn}
+use Rattle.fsd_runs.specs.Errands.{Answered, blank, ByFault, cut_ending, Ending, errand_of, forced_turn, generated_line, group_ending, line_turn, Turn}
 use Rattle.fsd_runs.specs.Sessions.{Meeting, session_over}
 use Rattle.fsd_runs.specs.Runs.{Goes, IsWornOut, WearsOut, answered, session_behind, turns_begun, turns_of}
 use Rattle.volume_contract.specs.State.{Known, forced_of, volume_of}
@@ -37,8 +37,8 @@ use Rattle.volume_turns.proofs.GroupEndLaws.{answered_cut, behind_cut, ended_as,
 use Rattle.volume_turns.proofs.GroupLaws.{goes_wider}
 
 -- the run has turns to say, whatever the volume
-pub some_turn : (seed count : ℕ) (input : List ℕ) (s : Session) → IsSome (slice_get (turns_of (errand_of (Generate seed count) input) [] s) 0)
-some_turn seed count input s = by (0 == length (all_plain (made_up seed count)))
+pub some_turn : (seed count : ℕ) (input : List ℕ) (v : Volume) → IsSome (slice_get (turns_of (errand_of (Generate seed count) input v) [] (session_over v)) 0)
+some_turn seed count input v = by (0 == length (all_plain (made_up seed count)))
   where
     by : (b : Bool) → IsSome (slice_get (if b then (group_ending (line_turn (generated_line []) ∷ []) 0).turns else blank ∷ []) 0)
     by true = refl
@@ -86,7 +86,7 @@ module _ {D : Type 0} (M : Ghosts D) (seed count : ℕ) (input rest : List ℕ) 
       known : length (answered mets v commands) ≡ length mets
       known = goes_length (in_runs k.windows) (M.left_since p 0) silent (WornIf false) (M.now a).said (M.now a).image v mets commands (goes 0 (omega arith))
 
-      turns_all : turns_of (errand_of (Generate seed count) input) mets v ≡ turns ++ turns_behind (is_through false mets commands) (line_turn (generated_line (answered mets v commands)) ∷ [])
+      turns_all : turns_of (errand_of (Generate seed count) input (volume_of k)) mets v ≡ turns ++ turns_behind (is_through false mets commands) (line_turn (generated_line (answered mets v commands)) ∷ [])
       turns_all = turns_are silent v mets commands commands refl ending (line_turn (generated_line (answered mets v commands)) ∷ []) refl (is_through false mets commands) (ap (λ (n : ℕ). n == length commands) (sym known))
 
       pub all_said : IsTrue (is_through false mets commands) → IsDone M k front (session_behind mets v commands).volume a p → (line : Line) → line ≡ generated_line (answered mets v commands) → (M.report a).output_faults ≤ (M.report p).output_faults
@@ -94,7 +94,7 @@ module _ {D : Type 0} (M : Ghosts D) (seed count : ℕ) (input rest : List ℕ) 
       all_said through done line is counted says ended =
           let t = line_turn line in
           let split : turns ++ forced_turn ∷ t ∷ [] ≡ front ++ t ∷ [] = sym (append_assoc turns (forced_turn ∷ []) (t ∷ [])) in
-          let turns_is : turns_of (errand_of (Generate seed count) input) mets v ≡ front ++ t ∷ [] =
+          let turns_is : turns_of (errand_of (Generate seed count) input (volume_of k)) mets v ≡ front ++ t ∷ [] =
           turns_all ∙ ap (λ (x : Bool). turns ++ turns_behind x (line_turn (generated_line (answered mets v commands)) ∷ [])) through ∙ ap (λ (l : Line). turns ++ forced_turn ∷ line_turn l ∷ []) (sym is) ∙ split in
           let moments : StopsOnly M a p (InRun k (forced_of k) (front ++ t ∷ []) (M.now a)) =
           subst (λ (x : List Turn). StopsOnly M a p (InRun k (forced_of k) x (M.now a))) split (subst (λ (x : Bool). StopsOnly M a p (InRun k (forced_of k) (turns ++ turns_behind x (t ∷ [])) (M.now a))) through (leaves (t ∷ []))) in
@@ -103,7 +103,8 @@ module _ {D : Type 0} (M : Ghosts D) (seed count : ℕ) (input rest : List ℕ) 
             may = tt;
             cause = tt;
             rooted = tt;
-            finishes = finishes_last M (Generate seed count) (M.report a) k front line (session_behind mets v commands).volume 0 a p b moments done short ends at_p at_b counted status says honest (errand_of (Generate seed count) input) Always (WornIf false) mets tt turns_is (on (WornIf false) later goes)
+            so = tt;
+            finishes = finishes_last M (Generate seed count) (M.report a) k front line (session_behind mets v commands).volume 0 a p b moments done short ends at_p at_b counted status says honest (errand_of (Generate seed count) input (volume_of k)) Always (WornIf false) mets tt turns_is (on (WornIf false) later goes)
                 (eqb-true (length mets) (length commands) through) refl refl ended;
           }
 
@@ -113,8 +114,9 @@ module _ {D : Type 0} (M : Ghosts D) (seed count : ℕ) (input rest : List ℕ) 
         may = tt;
         cause = tt;
         rooted = tt;
+        so = tt;
         finishes = finishes_broken M (Generate seed count) (M.report a) k turns (is_through false mets commands) (line_turn (generated_line (answered mets v commands)) ∷ []) a p b (leaves (line_turn (generated_line (answered mets v commands)) ∷ [])) why said short ends at_p at_b once told status says honest ended
-            (errand_of (Generate seed count) input) Always (WornIf false) mets tt turns_all (on (WornIf false) later goes);
+            (errand_of (Generate seed count) input (volume_of k)) Always (WornIf false) mets tt turns_all (on (WornIf false) later goes);
       }
 
       pub all_unsaid : {T : Type 0} → status ≡ 6 → FaultTold {T = T} (M.report a) (M.report b) (Err Output) → StopsOnly M a b (InRun k (forced_of k) (turns ++ turns_behind (is_through false mets commands) (line_turn (generated_line (answered mets v commands)) ∷ [])) (M.now a)) → Over
@@ -123,7 +125,8 @@ module _ {D : Type 0} (M : Ghosts D) (seed count : ℕ) (input rest : List ℕ) 
         may = tt;
         cause = tt;
         rooted = tt;
-        finishes = finishes_unsaid M (Generate seed count) (M.report a) k (turns ++ turns_behind (is_through false mets commands) (line_turn (generated_line (answered mets v commands)) ∷ [])) a b moments told (errand_of (Generate seed count) input) Always (WornIf false) mets tt turns_all (on (WornIf false) later goes);
+        so = tt;
+        finishes = finishes_unsaid M (Generate seed count) (M.report a) k (turns ++ turns_behind (is_through false mets commands) (line_turn (generated_line (answered mets v commands)) ∷ [])) a b moments told (errand_of (Generate seed count) input (volume_of k)) Always (WornIf false) mets tt turns_all (on (WornIf false) later goes);
       })
 
     -- it was cut off
@@ -160,29 +163,32 @@ module _ {D : Type 0} (M : Ghosts D) (seed count : ℕ) (input rest : List ℕ) 
       cut_said done counted says ended =
           let split : turns ++ forced_turn ∷ last_line ∷ [] ≡ front ++ last_line ∷ [] = sym (append_assoc turns (forced_turn ∷ []) (last_line ∷ [])) in
           record {
-            cut = Some (length mets, Ends.WornOut);
+            cut = Some (ByFault (length mets) Ends.WornOut);
             may = tt;
             cause = tt;
             rooted = tt;
+            so = tt;
             finishes = finishes_last M (Generate seed count) (M.report a) k front (Says.Ended Ends.WornOut) (session_behind mets v commands).volume 9 a p b (subst (λ (x : List Turn). StopsOnly M a p (InRun k (forced_of k) x (M.now a))) split (leaves (last_line ∷ []))) done short ends at_p at_b counted status says honest
                 (ended_as silent done_commands cut_short) Worn (λ v i. IsWornOut v i) mets worn_behind (turns_cut ∙ split) went (sym within) refl (ap (λ (x : Session). x.volume) (sym (behind_cut mets v commands))) ended;
           }
 
       pub cut_broken : (why : Fault) → Said M k (forced_of k) why turns a p → EndsAtOnce why → {T : Type 0} → FaultTold {T = T} (M.report a) (M.report p) (Err (Stopped why)) → LeavesDisk M false (is_unsaid status) (Utters (fault_text why)) p b → EndsWith why (M.now p) (M.now b) status → Over
       cut_broken why said once told says ended = record {
-        cut = Some (length mets, Ends.WornOut);
+        cut = Some (ByFault (length mets) Ends.WornOut);
         may = tt;
         cause = tt;
         rooted = tt;
+        so = tt;
         finishes = finishes_broken M (Generate seed count) (M.report a) k turns true (last_line ∷ []) a p b (leaves (last_line ∷ [])) why said short ends at_p at_b once told status says honest ended (ended_as silent done_commands cut_short) Worn (λ v i. IsWornOut v i) mets worn_behind turns_cut went;
       }
 
       pub cut_unsaid : {T : Type 0} → status ≡ 6 → FaultTold {T = T} (M.report a) (M.report b) (Err Output) → StopsOnly M a b (InRun k (forced_of k) (turns ++ forced_turn ∷ last_line ∷ []) (M.now a)) → Over
       cut_unsaid six told moments = subst (λ (n : ℕ). RunsOut M (Generate seed count) input rest (M.report a) k a b n) (sym six) (record {
-        cut = Some (length mets, Ends.WornOut);
+        cut = Some (ByFault (length mets) Ends.WornOut);
         may = tt;
         cause = tt;
         rooted = tt;
+        so = tt;
         finishes = finishes_unsaid M (Generate seed count) (M.report a) k (turns ++ forced_turn ∷ last_line ∷ []) a b moments told (ended_as silent done_commands cut_short) Worn (λ v i. IsWornOut v i) mets worn_behind turns_cut went;
       })
 

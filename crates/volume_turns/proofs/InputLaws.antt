@@ -1,5 +1,6 @@
 -- What a version of the input's bytes leaves: it is one command, or the input is too long.
 use Rattle.std.proofs.Common.{◌≡◌, ◌⊎◌, inl, inr, ℕ, ◌<◌, ◌≤◌, Bool, true, false, List, [], ◌∷◌, ◌++◌, length, Option, Some, None, refl, sym, ◌∙◌, ap, subst, arith}
+use Rattle.fsd_files.specs.Volume.{Volume}
 use Rattle.fsd_texts.specs.Text.{fault_text}
 use Rattle.fsd_log.specs.Scan.{Placed}
 use Rattle.std.specs.Prelude.{if◌then◌else◌, nat_lt, Err}
@@ -46,15 +47,15 @@ use Rattle.volume_turns.proofs.TurnLaws.{said_nothing, stays_held, stays_stops}
 
 -- ---- what a put of the input asks for
 
-pub asks_one : (name : List ℕ) (keep : Option ℕ) (input : List ℕ) → length input ≤ max_input → errand_of (Put name keep) input ≡ errand_alone (Word.Put name input keep)
-asks_one name keep input few = by (nat_lt max_input (length input)) refl
+pub asks_one : (name : List ℕ) (keep : Option ℕ) (input : List ℕ) (v : Volume) → length input ≤ max_input → errand_of (Put name keep) input v ≡ errand_alone (Word.Put name input keep)
+asks_one name keep input v few = by (nat_lt max_input (length input)) refl
   where
-    by : (b : Bool) → nat_lt max_input (length input) ≡ b → errand_of (Put name keep) input ≡ errand_alone (Word.Put name input keep)
+    by : (b : Bool) → nat_lt max_input (length input) ≡ b → errand_of (Put name keep) input v ≡ errand_alone (Word.Put name input keep)
     by true is = absurd (let more = ltb-true max_input (length input) is in omega (arith, few, more))
     by false is = ap (λ (b : Bool). if b then nothing_but Ends.InputTooLong else errand_alone (Word.Put name input keep)) is
 
-pub asks_none : (name : List ℕ) (keep : Option ℕ) (input : List ℕ) → max_input < length input → errand_of (Put name keep) input ≡ nothing_but Ends.InputTooLong
-asks_none name keep input many = ap (λ (b : Bool). if b then nothing_but Ends.InputTooLong else errand_alone (Word.Put name input keep)) (lt-ltb max_input (length input) many)
+pub asks_none : (name : List ℕ) (keep : Option ℕ) (input : List ℕ) (v : Volume) → max_input < length input → errand_of (Put name keep) input v ≡ nothing_but Ends.InputTooLong
+asks_none name keep input v many = ap (λ (b : Bool). if b then nothing_but Ends.InputTooLong else errand_alone (Word.Put name input keep)) (lt-ltb max_input (length input) many)
 
 -- ---- one command
 
@@ -70,9 +71,9 @@ module _ {D : Type 0} (M : Ghosts D) (name : List ℕ) (keep : Option ℕ) (inpu
   abbrev c : Command
   c = Word.Put name input keep
 
-  same_errand : (cut : Cut) → MayCut (One c) cut → errand_of (Put name keep) input ≡ errand_in (One c) [] cut
-  same_errand None may = asks_one name keep input few
-  same_errand (Some (n, why)) may = absurd may
+  same_errand : (cut : Cut) → MayCut (One c) cut → errand_of (Put name keep) input (volume_of k) ≡ errand_in (One c) [] cut (volume_of k)
+  same_errand None may = asks_one name keep input (volume_of k) few
+  same_errand (Some cutting) may = absurd may
 
   pub put_out : RunsOut M (One c) [] rest before k a b status → RunsOut M (Put name keep) input rest before k a b status
   put_out r = record {
@@ -80,10 +81,11 @@ module _ {D : Type 0} (M : Ghosts D) (name : List ℕ) (keep : Option ℕ) (inpu
     may = tt;
     cause = tt;
     rooted = tt;
+    so = tt;
     finishes = subst (λ (x : Errand). Finishes M (Put name keep) x Always (IsCutAt None) before k a b status) (sym (same_errand r.cut r.may)) (record {
       mets = r.finishes.mets;
       ahead = tt;
-      goes = λ t le. goes_wider (in_runs k.windows) (M.left_since b t) (M.left_since b t) (λ m was. was) (IsCutAt r.cut) (IsCutAt None) (λ v i is. tt) (errand_in (One c) [] r.cut) (M.now a).said (M.now a).image (session_over (volume_of k)) r.finishes.mets (errand_in (One c) [] r.cut).commands (r.finishes.goes t le);
+      goes = λ t le. goes_wider (in_runs k.windows) (M.left_since b t) (M.left_since b t) (λ m was. was) (IsCutAt r.cut) (IsCutAt None) (λ v i is. tt) (errand_in (One c) [] r.cut (volume_of k)) (M.now a).said (M.now a).image (session_over (volume_of k)) r.finishes.mets (errand_in (One c) [] r.cut (volume_of k)).commands (r.finishes.goes t le);
       moments = r.finishes.moments;
       ends = over r.finishes.ends;
     });
@@ -149,7 +151,8 @@ module _ {S D : Type 0} (state : S → State) (has : S → Mounted → List Plac
     may = tt;
     cause = tt;
     rooted = tt;
-    finishes = subst (λ (x : Errand). Finishes M (Put name keep) x Always (IsCutAt None) (M.report a) k a b status) (sym (asks_none name keep input many))
+    so = tt;
+    finishes = subst (λ (x : Errand). Finishes M (Put name keep) x Always (IsCutAt None) (M.report a) k a b status) (sym (asks_none name keep input (volume_of k) many))
         (finishes_last M (Put name keep) (M.report a) k [] (Says.Ended Ends.InputTooLong) (volume_of k) 5 a m b moments done (short m back) stands.ends at_m (timed b honest) (let same = reads.uses.output in omega (arith, same)) status says honest none Always (IsCutAt None) [] tt refl (λ t le. tt) refl refl refl ended);
   }
     where
@@ -183,7 +186,8 @@ module _ {S D : Type 0} (state : S → State) (has : S → Mounted → List Plac
         may = tt;
         cause = tt;
         rooted = tt;
-        finishes = subst (λ (x : Errand). Finishes M (Put name keep) x Always (IsCutAt None) (M.report a) k a b status) (sym (asks_none name keep input many)) (record {
+        so = tt;
+        finishes = subst (λ (x : Errand). Finishes M (Put name keep) x Always (IsCutAt None) (M.report a) k a b status) (sym (asks_none name keep input (volume_of k) many)) (record {
           mets = [];
           ahead = tt;
           goes = λ t le. tt;

@@ -14,7 +14,7 @@ use Rattle.fsd_texts.specs.declared.fault.Fault.TheVariants as Ends
 use Rattle.fsd_texts.specs.declared.line.Line.{Line}
 use Rattle.fsd_texts.specs.declared.line.Line.TheVariants as Says
 use Rattle.fsd_texts.specs.Text.{text}
-use Rattle.volume_contract.specs.Order.{CallStep, Draw, Force, IsDownBy, KeepsRefused, PassesTest, StepRefuses, Roots, delete_steps, force_steps, keep_steps, move_steps, put_steps, with_drawn, with_three}
+use Rattle.volume_contract.specs.Order.{CallStep, Draw, Force, IsDownBy, KeepsRefused, PassesTest, StepRefuses, Roots, delete_steps, force_steps, keep_steps, load_steps, move_steps, put_steps, with_drawn, with_three}
 use Rattle.volume_contract.specs.State.{HasCounted, IsDownAt, IsForced, IsNew, State, enters_again, forces_first, forces_for_place, is_worn, moved_third, numbered}
 use Rattle.volume_turns.specs.declared.turns.Halt.{Halt}
 use Rattle.volume_turns.specs.declared.turns.Halt.TheVariants.{Fault as Stopped}
@@ -149,6 +149,9 @@ goes_by steps s t draws forces x = record { serials = let a = x.serials in omega
 module _ (s t : State) (r : Refusal) where
   pub put_goes : (keep : Option ℕ) (len : ℕ) → KeepsRefused (put_steps s keep len) r s t → GoesUp 1 s t
   put_goes keep len keeps = goes_by (put_steps s keep len) s t (omega arith) (put_force (forces_for_place s (sectors_for len)) (forces_first s)) (keeps_goes (put_steps s keep len) r s t keeps)
+
+  pub load_goes : (keep len : ℕ) → KeepsRefused (load_steps s keep len) r s t → GoesUp 1 s t
+  load_goes keep len keeps = goes_by (load_steps s keep len) s t (omega arith) (put_force (forces_for_place s (sectors_for len)) (forces_first s)) (keeps_goes (load_steps s keep len) r s t keeps)
 
   pub delete_goes : KeepsRefused (delete_steps s) r s t → GoesUp 1 s t
   delete_goes keeps = goes_by (delete_steps s) s t (omega arith) (one_force (forces_first s)) (keeps_goes (delete_steps s) r s t keeps)

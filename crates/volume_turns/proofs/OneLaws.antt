@@ -2,6 +2,7 @@
 use Rattle.std.proofs.Common.{◌≡◌, inl, inr, false, ℕ, ◌≤◌, List, [], ◌∷◌, ◌++◌, length, take, None, refl, sym, ◌∙◌, ap, arith}
 use Rattle.std.specs.Prelude.{⊤, IsSome, Result, Ok, Err, slice_get}
 use Rattle.std.proofs.lemmas.List.{append-nil}
+use Rattle.fsd_files.specs.Volume.{Volume}
 use Rattle.fsd_texts.specs.Text.{fault_text}
 use Rattle.sector_disk.specs.declared.machine.Machine.{Ghosts}
 use Rattle.sector_disk.specs.Calls.{IsTimed, LeavesDisk, Since, StopsOnly, stops}
@@ -39,8 +40,8 @@ first_of [] one = cc one
 first_of (t ∷ turns) one = refl
 
 -- the run has a turn to say, whatever the volume
-pub some_one : (c : Command) (s : Session) → IsSome (slice_get (turns_of (errand_of (One c) []) [] s) 0)
-some_one c s = first_of (turns_of (errand_alone c) [] s) (alone_length c [] s)
+pub some_one : (c : Command) (v : Volume) → IsSome (slice_get (turns_of (errand_of (One c) [] v) [] (session_over v)) 0)
+some_one c v = first_of (turns_of (errand_alone c) [] (session_over v)) (alone_length c [] (session_over v))
 
 -- where nothing of its one turn is said
 halted_one : {D : Type 0} (M : Ghosts D) (c : Command) (k : Known) (mets : List Meeting) (why : Fault) (a b : D) → (M.now b).windows ≡ (M.now a).windows → Unanswered M c k mets why a b → Halted M k why (turns_of (errand_alone c) mets (session_over (volume_of k))) a b
@@ -109,6 +110,7 @@ module _ {D : Type 0} (M : Ghosts D) (c : Command) (rest : List ℕ) (k : Known)
           moments = broken_moments M (One c) (M.report a) k turns a p b one.moments why halted short ends at_p at_b one.ends.once told status says honest ended;
           ends = inr (broken_ends M (One c) (M.report a) k turns a p b one.moments why halted short ends at_p at_b one.ends.once told status says honest ended);
         };
+        so = tt;
         rooted = fault_rooted M k (one_end c k one.mets) a p b why (at_once_ends why one.ends.once) one.ends.said at_p at_b since (says.any_moment honest) one.rooted;
       }
 
@@ -128,6 +130,7 @@ module _ {D : Type 0} (M : Ghosts D) (c : Command) (rest : List ℕ) (k : Known)
       moments = one.moments;
       ends = inl (record { through = one.ends.0; gives = one.ends.1; done = one.ends.2 });
     };
+    so = tt;
     rooted = one_rooted M k (one_end c k one.mets) a b one.rooted;
   }
 
@@ -143,5 +146,6 @@ module _ {D : Type 0} (M : Ghosts D) (c : Command) (rest : List ℕ) (k : Known)
       moments = one.moments;
       ends = inr (inl (record { ends = refl; rose = told.output }));
     };
+    so = tt;
     rooted = one_rooted M k (one_end c k one.mets) a b one.rooted;
   }

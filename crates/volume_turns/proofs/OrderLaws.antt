@@ -101,58 +101,54 @@ place_never s need why o is = some_never (is_none (place_in s need)) (no_place_i
 abbrev pub steps_of : State → Option Refusal → List CallStep → List CallStep
 steps_of s size rest = down s ∷ Test size ∷ worn s ∷ rest
 
+-- a version is made, with this behind its look-up
+abbrev pub make_rest : State → ℕ → List CallStep → List CallStep
+make_rest s need behind = Force (forces_for_place s need) ∷ place s need ∷ Draw ∷ Disk (in_place (place_in s need)) ∷ Force (forces_first s && not (forces_for_place s need)) ∷ LookUp ∷ behind
+
+abbrev pub table_rest : State → List CallStep
+table_rest s = Asks Why.VersionsUsedUp ∷ table_full s ∷ Fetch ∷ []
+
 abbrev pub put_rest : State → ℕ → List CallStep
-put_rest s need = Force (forces_for_place s need) ∷ place s need ∷ Draw ∷ Disk (in_place (place_in s need)) ∷ Force (forces_first s && not (forces_for_place s need)) ∷ LookUp ∷ Asks Why.VersionsUsedUp ∷ table_full s ∷ Fetch ∷ []
+put_rest s need = make_rest s need (table_rest s)
+
+abbrev pub load_rest : State → ℕ → List CallStep
+load_rest s need = make_rest s need (Asks Why.Exists ∷ table_rest s)
 
 abbrev pub edit_rest : State → List CallStep
 edit_rest s = by_itself s ∷ LookUp ∷ Asks Why.NoSuch ∷ []
 
 abbrev pub move_rest : State → List CallStep
-move_rest s = by_itself s ∷ LookUp ∷ Asks Why.NoSuch ∷ Asks Why.VersionsUsedUp ∷ table_full s ∷ Fetch ∷ []
+move_rest s = by_itself s ∷ LookUp ∷ Asks Why.NoSuch ∷ table_rest s
 
 full_never : (s : State) (why : Refusal) → IsOther why → cond (nat_lt (length s.free_pages) least_pages) (Some (Why.NameTableFull (length s.free_pages))) None ≡ Some why → ⊥
 full_never s why o = some_never (nat_lt (length s.free_pages) least_pages) (Why.NameTableFull (length s.free_pages)) why (not_other (Why.NameTableFull (length s.free_pages)) why (λ x. x) o)
 
-pub put_never : (s : State) (need : ℕ) (why : Refusal) → IsOther why → Never why (put_rest s need)
-put_never s need why o =
+make_never : (s : State) (need : ℕ) (behind : List CallStep) (why : Refusal) → IsOther why → Never why behind → Never why (make_rest s need behind)
+make_never s need behind why o none =
     let no_call = not_looked why o in (
       λ x. no_call.2 x.1,
       (
         place_never s need why o,
-        (
-          λ x. x,
-          (
-            no_write why o (in_place (place_in s need)),
-            (
-              λ x. no_call.2 x.1,
-              (
-                no_call.0,
-                (
-                  λ is. not_other Why.VersionsUsedUp why (λ x. x) o (sym is),
-                  (full_never s why o, (no_call.1, tt)),
-                ),
-              ),
-            ),
-          ),
-        ),
+        (λ x. x, (no_write why o (in_place (place_in s need)), (λ x. no_call.2 x.1, (no_call.0, none)))),
       ),
     )
+
+table_never : (s : State) (why : Refusal) → IsOther why → Never why (table_rest s)
+table_never s why o = (λ is. not_other Why.VersionsUsedUp why (λ x. x) o (sym is), (full_never s why o, ((not_looked why o).1, tt)))
+
+pub put_never : (s : State) (need : ℕ) (why : Refusal) → IsOther why → Never why (put_rest s need)
+put_never s need why o = make_never s need (table_rest s) why o (table_never s why o)
+
+pub load_never : (s : State) (need : ℕ) (why : Refusal) → IsOther why → Never why (load_rest s need)
+load_never s need why o = make_never s need (Asks Why.Exists ∷ table_rest s) why o (λ is. not_other Why.Exists why (λ x. x) o (sym is), table_never s why o)
 
 pub edit_never : (s : State) (why : Refusal) → IsOther why → Never why (edit_rest s)
 edit_never s why o = let no_call = not_looked why o in (λ x. no_call.2 x.1, (no_call.0, (λ is. not_other Why.NoSuch why (λ x. x) o (sym is), tt)))
 
 pub move_never : (s : State) (why : Refusal) → IsOther why → Never why (move_rest s)
 move_never s why o =
-    let no_call = not_looked why o in (
-      λ x. no_call.2 x.1,
-      (
-        no_call.0,
-        (
-          λ is. not_other Why.NoSuch why (λ x. x) o (sym is),
-          (λ is. not_other Why.VersionsUsedUp why (λ x. x) o (sym is), (full_never s why o, (no_call.1, tt))),
-        ),
-      ),
-    )
+    let no_call = not_looked why o in
+    (λ x. no_call.2 x.1, (no_call.0, (λ is. not_other Why.NoSuch why (λ x. x) o (sym is), table_never s why o)))
 
 module _ (s : State) (up : s.down ≡ None) where
   pub starts_up : (rest : List CallStep) (why : Refusal) → Comes (down s ∷ rest) why → Comes rest why

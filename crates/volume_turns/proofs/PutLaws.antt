@@ -11,6 +11,7 @@ use Rattle.sector_disk.proofs.Moments.{leaves_more, then_on}
 use Rattle.fsd_files.specs.Answers.{Met}
 use Rattle.fsd_files.specs.Disk.{Image, in_runs}
 use Rattle.fsd_files.specs.Desk.{Session}
+use Rattle.fsd_files.specs.Volume.{Volume}
 use Rattle.fsd_sound.specs.Mounted.{Mounted}
 use Rattle.fsd_sound.proofs.MoreLaws.{sound_more}
 use Rattle.fsd_sound.proofs.MountedLaws.{mounted_sound, mounted_tells}
@@ -42,16 +43,16 @@ abbrev asked : Bool → (name input : List ℕ) → Option ℕ → Errand
 asked long name input keep = if long then nothing_but Ends.InputTooLong else errand_alone (Word.Put name input keep)
 
 -- the run has a turn to say, whatever the volume
-pub some_put : (name : List ℕ) (keep : Option ℕ) (input : List ℕ) (s : Session) → IsSome (slice_get (turns_of (errand_of (Put name keep) input) [] s) 0)
-some_put name keep input s = by (nat_lt max_input (length input))
+pub some_put : (name : List ℕ) (keep : Option ℕ) (input : List ℕ) (v : Volume) → IsSome (slice_get (turns_of (errand_of (Put name keep) input v) [] (session_over v)) 0)
+some_put name keep input v = by (nat_lt max_input (length input))
   where
-    by : (long : Bool) → IsSome (slice_get (turns_of (asked long name input keep) [] s) 0)
+    by : (long : Bool) → IsSome (slice_get (turns_of (asked long name input keep) [] (session_over v)) 0)
     by true = refl
-    by false = some_one (Word.Put name input keep) s
+    by false = some_one (Word.Put name input keep) v
 
 -- its command reads no data of a version
-put_finds : (name : List ℕ) (keep : Option ℕ) (input : List ℕ) (i j : Image) (s : Session) (met : Met) → IfSome (slice_get (errand_of (Put name keep) input).commands 0) (λ c. MayFindIn i j s c met)
-put_finds name keep input i j s met = by (nat_lt max_input (length input))
+put_finds : (name : List ℕ) (keep : Option ℕ) (input : List ℕ) (i j : Image) (v : Volume) (s : Session) (met : Met) → IfSome (slice_get (errand_of (Put name keep) input v).commands 0) (λ c. MayFindIn i j s c met)
+put_finds name keep input i j v s met = by (nat_lt max_input (length input))
   where
     by : (long : Bool) → IfSome (slice_get (asked long name input keep).commands 0) (λ c. MayFindIn i j s c met)
     by true = tt
@@ -63,7 +64,7 @@ module _ {S D : Type 0} (state : S → State) (has : S → Mounted → List Plac
     (wears : (old new : Moment) → AreShort old.windows → Ages old new → Stands state has v k old → Stands state has v k new) (short : AreShort (M.now a).windows) (stands : Stands state has v k (M.now a))
     (on : OnDisk M k (forced_of k) a) (at_a : IsTimed M a) (at_m : IsTimed M m) (takes : Bool) (read : LeavesDisk M takes false Wears a m) (back : M.honest m) (status : ℕ) where
   abbrev e : Errand
-  e = errand_of (Put name keep) input
+  e = errand_of (Put name keep) input (volume_of k)
 
   worn : Wears (M.now a) (M.now m)
   worn = read.exit back
@@ -135,19 +136,20 @@ module _ {S D : Type 0} (state : S → State) (has : S → Mounted → List Plac
       undone = x.undone;
     }))
 
-    from_there : (cut : Cut) → MayCut (Put name keep) cut → Finishes M (Put name keep) (errand_in (Put name keep) input cut) (λ s. IsCutBefore cut s (errand_of (Put name keep) input).commands) (IsCutAt cut) before k m b status → RunsOut M (Put name keep) input rest before k a b status
-    from_there (Some (n, why)) may f = absurd may
+    from_there : (cut : Cut) → MayCut (Put name keep) cut → Finishes M (Put name keep) (errand_in (Put name keep) input cut (volume_of k)) (λ s. IsCutBefore cut s (errand_of (Put name keep) input (volume_of k)).commands) (IsCutAt cut) before k m b status → RunsOut M (Put name keep) input rest before k a b status
+    from_there (Some cutting) may f = absurd may
     from_there None may f = record {
       cut = None;
       may = tt;
       cause = tt;
       rooted = tt;
+      so = tt;
       finishes = record {
         mets = f.mets;
         ahead = tt;
         goes = λ t le. let later = (read.any_moment back).later in
             subst (λ (x : List ℕ). Goes (in_runs k.windows) (M.left_since b t) (IsCutAt None) e x (M.now a).image (session_over (volume_of k)) f.mets e.commands) worn.said
-            (goes_from (M.left_since b t) e (M.now m).said f.mets e.commands (put_finds name keep input) (f.goes t (omega (arith, le, later))));
+            (goes_from (M.left_since b t) e (M.now m).said f.mets e.commands (λ i j u met. put_finds name keep input i j (volume_of k) u met) (f.goes t (omega (arith, le, later))));
         moments = then_on M.moment (stops M) a m b (InRun k (forced_of k) (turns_of e f.mets (session_over (volume_of k))) (M.now a)) (taking (turns_of e f.mets (session_over (volume_of k))))
             (leaves_more M.moment (stops M) m b (InRun k (forced_of k) (turns_of e f.mets (session_over (volume_of k))) (M.now m)) (InRun k (forced_of k) (turns_of e f.mets (session_over (volume_of k))) (M.now a))
             (λ left x. in_from k (forced_of k) (M.now a) (M.now m) worn (turns_of e f.mets (session_over (volume_of k))) left x) f.moments);
@@ -177,7 +179,7 @@ module _ {S D : Type 0} (state : S → State) (has : S → Mounted → List Plac
     halted = record {
       windows = worn.windows;
       whole = 0;
-      more = some_put name keep input (session_over (volume_of k));
+      more = some_put name keep input (volume_of k);
       said = worn.said ∙ sym (append-nil (M.now a).said);
       forced = forced_of k;
       least = omega arith;
@@ -198,6 +200,7 @@ module _ {S D : Type 0} (state : S → State) (has : S → Mounted → List Plac
       may = tt;
       cause = tt;
       rooted = tt;
+      so = tt;
       finishes = record {
         mets = [];
         ahead = tt;

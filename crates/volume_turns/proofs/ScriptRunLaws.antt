@@ -5,6 +5,8 @@ use Rattle.sector_disk.specs.declared.machine.Machine.{Ghosts}
 use Rattle.sector_disk.specs.Machine.{Report, Rose}
 use Rattle.fsd_files.specs.declared.reply.Reply.{Reply}
 use Rattle.fsd_files.specs.Desk.{Session}
+use Rattle.fsd_files.specs.Volume.{Volume}
+use Rattle.fsd_runs.specs.Sessions.{session_over}
 use Rattle.fsd_texts.specs.declared.script_command.ScriptCommand.{ScriptCommand}
 use Rattle.fsd_texts.specs.declared.fault.Fault.TheVariants as Ends
 use Rattle.fsd_texts.specs.declared.line.Line.TheVariants as Says
@@ -13,7 +15,7 @@ use Rattle.fsd_texts.specs.declared.end.End.TheVariants.{Done, Bad, TooLong}
 use Rattle.fsd_texts.specs.Script.{script_in, script_of}
 use Rattle.fsd_runs.specs.Commands.{reply_text}
 use Rattle.fsd_runs.specs.declared.request.Request.TheVariants.{Script}
-use Rattle.fsd_runs.specs.Errands.{Answered, Ending, Errand, Turn, blank, cut_ending, errand_of, group_ending, is_forced, line_turn, script_ending, scripted}
+use Rattle.fsd_runs.specs.Errands.{Answered, blank, ByFault, cut_ending, Ending, Errand, errand_of, group_ending, is_forced, line_turn, script_ending, scripted, Turn}
 use Rattle.fsd_runs.specs.Runs.{IsWornOut, WearsOut, turns_of}
 use Rattle.volume_contract.specs.State.{Known}
 use Rattle.volume_turns.specs.Group.{WornIf}
@@ -22,8 +24,8 @@ use Rattle.volume_turns.proofs.GroupEndLaws.{ended_as}
 use Rattle.volume_turns.proofs.ScriptEndLaws.{WornOff, but_input, finishes_in}
 
 -- the run has turns to say, whatever the volume
-pub some_forced : (input : List ℕ) (s : Session) → IsSome (slice_get (turns_of (errand_of Script input) [] s) 0)
-some_forced input s = by (0 == length (script_in input).0) (script_in input).1
+pub some_forced : (input : List ℕ) (v : Volume) → IsSome (slice_get (turns_of (errand_of Script input v) [] (session_over v)) 0)
+some_forced input v = by (0 == length (script_in input).0) (script_in input).1
   where
     by : (b : Bool) (end : ScriptEnd) → IsSome (slice_get (if b then (script_ending end).turns else blank ∷ []) 0)
     by true Done = refl
@@ -50,6 +52,7 @@ module _ (e : Errand) (says : e.says ≡ reply_text) (forces : e.forces ≡ is_f
       may = tt;
       cause = tt;
       rooted = tt;
+      so = tt;
       finishes = subst (λ (y : Errand). Finishes M Script y Always (WornIf false) x k a b status) (as_spoken (script_in input).0 (λ done. script_ending (script_in input).1)) (finishes_in M _ Always (WornIf false) x p k a b status f);
     }
 
@@ -58,20 +61,22 @@ module _ (e : Errand) (says : e.says ≡ reply_text) (forces : e.forces ≡ is_f
 
     pub runs_worn : WornOff M e (script_in input).0 (but_input x p) k a b status → Over
     runs_worn w = record {
-      cut = Some (w.count, Ends.WornOut);
+      cut = Some (ByFault w.count Ends.WornOut);
       may = tt;
       cause = tt;
       rooted = tt;
+      so = tt;
       finishes = subst (λ (y : Errand). Finishes M Script y (λ s. WearsOut s (slice_get (script_in input).0 w.count)) (λ v i. IsWornOut v i) x k a b status) (as_spoken (take w.count (script_in input).0) (λ done. cut_ending Ends.WornOut)) (finishes_in M _ (λ s. WearsOut s (slice_get (script_in input).0 w.count)) (λ v i. IsWornOut v i) x p k a b status w.finishes);
     }
 
     pub runs_failed : (done : List ScriptCommand) → take (length done) (script_in input).0 ≡ done → Rose x.input_faults (M.report b).input_faults → (taken : List ℕ) → input ≡ taken ++ rest → length (script_of taken).0 ≡ length done
         → Finishes M Script (ended_as e done (λ d. cut_ending Ends.Input)) Always (WornIf false) (but_input x p) k a b status → Over
     runs_failed done front rose taken all whole f = record {
-      cut = Some (length done, Ends.Input);
+      cut = Some (ByFault (length done) Ends.Input);
       may = tt;
       cause = record { rose = rose; taken = taken; all = all; commands = whole };
       rooted = tt;
+      so = tt;
       finishes = subst (λ (cs : List ScriptCommand). Finishes M Script (ended_as spoken cs (λ d. cut_ending Ends.Input)) Always (WornIf false) x k a b status) (sym front)
           (subst (λ (y : Errand). Finishes M Script y Always (WornIf false) x k a b status) (as_spoken done (λ d. cut_ending Ends.Input)) (finishes_in M _ Always (WornIf false) x p k a b status f));
     }

@@ -140,6 +140,7 @@ forced_asked (Plain (Word.Put name bytes keep)) i may = absurd may
 forced_asked (Plain (Word.Delete key)) i may = absurd may
 forced_asked (Plain (Word.Keep name keep)) i may = absurd may
 forced_asked (Plain (Word.Move key name)) i may = absurd may
+forced_asked (Plain (Word.Load key keep bytes)) i may = absurd may
 forced_asked (Plain (Word.List pattern)) i may = absurd may
 forced_asked (Plain (Word.Get key)) i may = absurd may
 forced_asked (Plain Word.Stat) i may = absurd may

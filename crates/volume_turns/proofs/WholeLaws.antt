@@ -15,6 +15,7 @@ use Rattle.sector_disk.proofs.Moments.{leaves_more, started, then_on}
 use Rattle.fsd_files.specs.Disk.{Image, in_runs}
 use Rattle.fsd_files.specs.Desk.{Session}
 use Rattle.fsd_files.specs.Files.{Change}
+use Rattle.fsd_files.specs.Volume.{Volume}
 use Rattle.fsd_sound.specs.Laid.{HasOwnRoots}
 use Rattle.fsd_sound.specs.Mounted.{Mounted, telling_of}
 use Rattle.fsd_sound.specs.Mounting.{device_of_mount}
@@ -30,19 +31,19 @@ use Rattle.fsd_texts.specs.declared.fault.Fault.{Fault}
 use Rattle.fsd_texts.specs.declared.fault.Fault.TheVariants as Ends
 use Rattle.fsd_texts.specs.Text.{fault_text}
 use Rattle.fsd_runs.specs.declared.request.Request.{Request}
-use Rattle.fsd_runs.specs.declared.request.Request.TheVariants.{One, Put}
-use Rattle.fsd_runs.specs.Errands.{Cut, Turn, blank, errand_of, fault_status}
-use Rattle.fsd_runs.specs.Leaves.{CutCause, IfOne, IsBrokenOff, IsOutside, IsReplied, IsSpent, IsUnderWay, IsUndone, IsUnsaid, LeavesBy, LeavesRoots, Left, LeftBefore, LeftByTurns, Unbegun, Whatever}
+use Rattle.fsd_runs.specs.declared.request.Request.TheVariants.{One, Put, Restore}
+use Rattle.fsd_runs.specs.Errands.{blank, ByFault, Cut, errand_of, fault_status, Turn}
+use Rattle.fsd_runs.specs.Leaves.{CutCause, IfOne, IsBrokenOff, IsOutside, IsReplied, IsSpent, IsUnderWay, IsUndone, IsUnsaid, LeavesBy, LeavesRoots, Left, LeftBefore, LeftByTurns, SaysFault, Unbegun, Whatever}
 use Rattle.fsd_runs.proofs.LeaveLaws.{one_more}
 use Rattle.fsd_runs.specs.Sessions.{session_over}
-use Rattle.fsd_runs.specs.Runs.{Goes, IsCutAt, IsThrough, Course, changes_in, errand_in, run_end, run_status, run_turns, said_in, turns_of}
+use Rattle.fsd_runs.specs.Runs.{answered, changes_in, Course, errand_in, Goes, GoesSo, IsCutAt, IsThrough, run_end, run_status, run_turns, said_in, turns_of}
 use Rattle.volume_contract.specs.Mount.{EndsBefore, EndsSettled, Excuses, ExcusesOf, MountsAs, SettledDisk, SoundAbout, SoundBefore, SoundSince}
 use Rattle.volume_contract.specs.State.{State, Known, Stands, forced_of, none_open, volume_of}
 use Rattle.volume_turns.specs.declared.turns.Halt.TheVariants.{Fault as Stopped}
 use Rattle.volume_turns.specs.Line.{EndsWith, is_unsaid}
 use Rattle.volume_turns.specs.Once.{end_by_mount}
 use Rattle.volume_turns.specs.Turns.{EndsAtOnce, InRun, OnDisk, SaysAll, FaultTold, Undone}
-use Rattle.volume_turns.specs.Whole.{Halted, RunsOut, SaysOut, UnderWay}
+use Rattle.volume_turns.specs.Whole.{GoesUnsaid, Halted, RunsOut, SaysOut, UnderWay}
 use Rattle.volume_turns.proofs.HaltLaws.{broken_ends, broken_moments, held_behind, stops_saying}
 use Rattle.volume_turns.proofs.LineLaws.{at_once_ends, excused}
 use Rattle.volume_turns.proofs.OneLaws.{fault_line}
@@ -80,6 +81,7 @@ module _ (a m b : Report) (uses : UsesDisk a m) (faults : DiskFaults None a m) w
   outside_on request (Ends.Device s) o = record { rose = subst (λ (n : ℕ). Rose n b.disk_faults) faults.0 o.rose; told = o.told }
   outside_on request Ends.Memory o = tt
   outside_on (Put name keep) Ends.Input o = subst (λ (n : ℕ). Rose n b.input_faults) uses.input o
+  outside_on Restore Ends.Input o = subst (λ (n : ℕ). Rose n b.input_faults) uses.input o
   outside_on request why o = absurd o
 
   pub broken_on : (request : Request) {Over : ℕ → Image → Type 0} {Way : ℕ → Type 0} {turns : List Turn} {old new : Moment} {status : ℕ} → IsBrokenOff request Over Way m b turns old new status → IsBrokenOff request Over Way a b turns old new status
@@ -87,13 +89,13 @@ module _ (a m b : Report) (uses : UsesDisk a m) (faults : DiskFaults None a m) w
 
   pub cause_on : (cut : Cut) (input rest : List ℕ) → CutCause cut input rest m b → CutCause cut input rest a b
   cause_on None input rest cause = tt
-  cause_on (Some (k, Ends.Input)) input rest cause = record {
+  cause_on (Some (ByFault k Ends.Input)) input rest cause = record {
     rose = subst (λ (n : ℕ). Rose n b.input_faults) uses.input cause.rose;
     taken = cause.taken;
     all = cause.all;
     commands = cause.commands;
   }
-  cause_on (Some (k, why)) input rest cause = tt
+  cause_on (Some cutting) input rest cause = tt
 
 -- the same run, where less was counted before
 pub runs_on : {D : Type 0} (M : Ghosts D) (request : Request) (input rest : List ℕ) (a m : Report) (uses : UsesDisk a m) (faults : DiskFaults None a m) (k : Known) (c b : D) (status : ℕ) → RunsOut M request input rest m k c b status → RunsOut M request input rest a k c b status
@@ -103,6 +105,7 @@ runs_on M request input rest a m uses faults k c b status r = record {
   cause = cause_on a m (M.report b) uses faults r.cut input rest r.cause;
   finishes = record { mets = r.finishes.mets; ahead = r.finishes.ahead; goes = r.finishes.goes; moments = r.finishes.moments; ends = ended r.finishes.ends };
   rooted = r.rooted;
+  so = r.so;
 }
   where
     ended : {All : Type 0} {Over : ℕ → Image → Type 0} {Way : ℕ → Type 0} {turns : List Turn} {old new : Moment} → All ⊎ (IsUnsaid m (M.report b) status ⊎ IsBrokenOff request Over Way m (M.report b) turns old new status) → All ⊎ (IsUnsaid a (M.report b) status ⊎ IsBrokenOff request Over Way a (M.report b) turns old new status)
@@ -171,7 +174,7 @@ module _ {D : Type 0} (M : Ghosts D) (request : Request) (input rest : List ℕ)
     (at_a : IsTimed M a) (at_m : IsTimed M m) (mounts : Since M a m) (held : IsHeld M a (λ c. IsSound l windows h f c.image)) (at : ℕ) (mount : LeavesOnly M.moment M.left_since a m (SoundAbout at l windows run h f n (M.now a))) (settled_at : (left : Moment) → M.left_since m at left → SoundSince l windows run h n (M.now a) left)
     (named : IsNamedSince (M.left_since m) (M.moment a) (Some run)) (since : Since M m b) (now : M.left_since b (M.moment m) (M.now b)) (status : ℕ) (r : RunsOut M request input rest (M.report a) k m b status) where
   abbrev turns : List Turn
-  turns = turns_of (errand_in request input r.cut) r.finishes.mets (session_over (volume_of k))
+  turns = turns_of (errand_in request input r.cut (volume_of k)) r.finishes.mets (session_over (volume_of k))
 
   on : (left : Moment) → InRun k (forced_of k) turns (M.now m) left → LeftByTurns l windows run h n turns (M.now a) left
   on left x = run_left l windows run h f n prefix k (M.now a) (M.now m) s quiet turns left x
@@ -191,8 +194,9 @@ module _ {D : Type 0} (M : Ghosts D) (request : Request) (input rest : List ℕ)
     may = r.may;
     mets = r.finishes.mets;
     before = r.finishes.ahead;
-    goes = subst (λ (x : List ℕ). Goes (in_runs (windows ++ run ∷ [])) (M.left_since b (M.moment m)) (IsCutAt r.cut) (errand_in request input r.cut) x (M.now m).image (session_over (volume_of k)) r.finishes.mets (errand_in request input r.cut).commands) quiet
-        (subst (λ (x : List WeakRun). Goes (in_runs x) (M.left_since b (M.moment m)) (IsCutAt r.cut) (errand_in request input r.cut) (M.now m).said (M.now m).image (session_over (volume_of k)) r.finishes.mets (errand_in request input r.cut).commands) s.known (r.finishes.goes (M.moment m) (omega arith)));
+    so = subst (λ (x : List ℕ). GoesSo request r.cut (M.left_since b (M.moment m)) x (volume_of k) (M.now m).image (answered r.finishes.mets (session_over (volume_of k)) (errand_in request input r.cut (volume_of k)).commands)) quiet r.so;
+    goes = subst (λ (x : List ℕ). Goes (in_runs (windows ++ run ∷ [])) (M.left_since b (M.moment m)) (IsCutAt r.cut) (errand_in request input r.cut (volume_of k)) x (M.now m).image (session_over (volume_of k)) r.finishes.mets (errand_in request input r.cut (volume_of k)).commands) quiet
+        (subst (λ (x : List WeakRun). Goes (in_runs x) (M.left_since b (M.moment m)) (IsCutAt r.cut) (errand_in request input r.cut (volume_of k)) (M.now m).said (M.now m).image (session_over (volume_of k)) r.finishes.mets (errand_in request input r.cut (volume_of k)).commands) s.known (r.finishes.goes (M.moment m) (omega arith)));
   }
 
   -- what is sound, and has its roots, behind the mount
@@ -220,7 +224,7 @@ module _ {D : Type 0} (M : Ghosts D) (request : Request) (input rest : List ℕ)
   rooted_stops on_line = then_on M.moment (stops M) a m b Rooted mount_quiet
       (leaves_more M.moment (stops M) m b (LeavesRoots (run_end run_is).layout (weak_of k.windows) (M.now m)) Rooted roots_on on_line)
 
-  replied : SaysOut M (errand_in request input r.cut) k r.finishes.mets m b status → IsReplied l windows run h n turns (run_status run_is) (run_end run_is) (IsHeld M b) (M.now a) (M.now b) status
+  replied : SaysOut M (errand_in request input r.cut (volume_of k)) k r.finishes.mets m b status → IsReplied l windows run h n turns (run_status run_is) (run_end run_is) (IsHeld M b) (M.now a) (M.now b) status
   replied out =
       let d = out.done in
       record {
@@ -237,7 +241,7 @@ module _ {D : Type 0} (M : Ghosts D) (request : Request) (input rest : List ℕ)
   abbrev Over : Type 0
   Over = IsUnsaid (M.report a) (M.report b) status ⊎ IsBrokenOff request (Undone k (forced_of k) turns) (UnderWay M k turns b) (M.report a) (M.report b) turns (M.now m) (M.now b) status
 
-  ended : SaysOut M (errand_in request input r.cut) k r.finishes.mets m b status ⊎ Over
+  ended : SaysOut M (errand_in request input r.cut (volume_of k)) k r.finishes.mets m b status ⊎ Over
       → (IsThrough run_is × IsReplied l windows run h n (run_turns run_is) (run_status run_is) (run_end run_is) (IsHeld M b) (M.now a) (M.now b) status) ⊎ (IsUnsaid (M.report a) (M.report b) status ⊎ IsBrokenOff request (IsUndone l (windows ++ run ∷ []) (take n h) n (run_turns run_is)) (IsUnderWay l (windows ++ run ∷ []) (take n h) n (run_turns run_is) (IsHeld M b)) (M.report a) (M.report b) (run_turns run_is) (M.now a) (M.now b) status)
   ended (inl out) = inl (out.through, replied out)
   ended (inr (inl u)) = inr (inl u)
@@ -362,13 +366,13 @@ module _ {S D : Type 0} (state : S → State) (has : S → Mounted → List Plac
 
   -- behind that, while its table was walked
   module _ (now : M.left_since b (M.moment m) (M.now b))
-      (some : (s : Session) → IsSome (slice_get (turns_of (errand_of request input) [] s) 0))
+      (some : (v : Volume) → IsSome (slice_get (turns_of (errand_of request input v) [] (session_over v)) 0)) (unsaid : GoesUnsaid request)
       (e : EndsSettled state has l windows h f (M.left_since m) (M.moment a) (λ P. LeavesOnly M.moment M.left_since a m P) (M.now a) (M.now m) (Err fault)) where
     abbrev k : Known
     k = e.known
 
     abbrev all_turns : List Turn
-    all_turns = turns_of (errand_of request input) [] (session_over (volume_of k))
+    all_turns = turns_of (errand_of request input (volume_of k)) [] (session_over (volume_of k))
 
     disk : OnDisk M k (forced_of k) m
     disk = settled_disk M l windows e.next h f e.count e.prefix k a m e.settled quiet at_m e.at e.held e.since
@@ -389,7 +393,7 @@ module _ {S D : Type 0} (state : S → State) (has : S → Mounted → List Plac
     halted = record {
       windows = refl;
       whole = 0;
-      more = some (session_over (volume_of k));
+      more = some (volume_of k);
       said = sym (append-nil (M.now m).said);
       forced = forced_of k;
       least = omega arith;
@@ -407,6 +411,10 @@ module _ {S D : Type 0} (state : S → State) (has : S → Mounted → List Plac
     once : EndsAtOnce why
     once = at_once fault e.ends
 
+    -- nothing else is said behind the mount
+    fault_only : (c : Moment) → M.left_since b (M.moment m) c → (part : List ℕ) × SaysFault part × (c.said ≡ (M.now m).said ++ part)
+    fault_only c left = let line = (says.any_moment honest).each c left in (take line.heard (fault_text why), (why, line.heard, at_once_ends why once, refl), line.said)
+
     runs : RunsOut M request input rest (M.report a) k m b status
     runs = record {
       cut = None;
@@ -419,6 +427,7 @@ module _ {S D : Type 0} (state : S → State) (has : S → Mounted → List Plac
         moments = broken_moments M request (M.report a) k all_turns m m b moments why halted short ends_k at_m at_b once told_is status says honest ended;
         ends = inr (broken_ends M request (M.report a) k all_turns m m b moments why halted short ends_k at_m at_b once told_is status says honest ended);
       };
+      so = unsaid (M.left_since b (M.moment m)) (M.now m).said (volume_of k) (M.now m).image fault_only;
       rooted = one_so request (fault_line M k (volume_of k).layout m m b why (at_once_ends why once) refl at_m at_b (says.since honest) (says.any_moment honest));
     }
 
@@ -426,10 +435,10 @@ module _ {S D : Type 0} (state : S → State) (has : S → Mounted → List Plac
     settled_run = mounted_run M request input rest l windows e.next h f e.count e.prefix k a m b e.settled quiet at_a at_m mounts held e.at e.moments e.since e.named (says.since honest) now status runs
 
   pub refused_run : (now : M.left_since b (M.moment m) (M.now b))
-      (some : (s : Session) → IsSome (slice_get (turns_of (errand_of request input) [] s) 0)) → MountsAs state has l windows h f (M.left_since m) (M.moment a) (λ P. LeavesOnly M.moment M.left_since a m P) (M.now a) (M.now m) (Err fault)
+      (some : (v : Volume) → IsSome (slice_get (turns_of (errand_of request input v) [] (session_over v)) 0)) (unsaid : GoesUnsaid request) → MountsAs state has l windows h f (M.left_since m) (M.moment a) (λ P. LeavesOnly M.moment M.left_since a m P) (M.now a) (M.now m) (Err fault)
       → LeavesBy request input rest l windows h f (M.left_since b) (stops M b) (M.moment a) (StopsOnly M a b) (IsHeld M b) (M.report a) (M.report b) (M.now a) (M.now b) status
-  refused_run now some (inl u) = unmounted_run u
-  refused_run now some (inr e) = settled_run now some e
+  refused_run now some unsaid (inl u) = unmounted_run u
+  refused_run now some unsaid (inr e) = settled_run now some unsaid e
 
 -- what a request does over a volume that was just mounted
 pub joined_run : {S D : Type 0} (state : S → State) (has : S → Mounted → List Placed → Type 0) (M : Ghosts D) (request : Request) (input rest : List ℕ) (l : Layout) (windows : List WeakRun) (h : List Change) (f : ℕ) (a m b : D) (v : S)

@@ -25,7 +25,7 @@ use Rattle.volume_contract.specs.State.{Ages, State, change_len, force_len, put_
 use Rattle.scrub.specs.Scrub.{scrub_writes}
 use Rattle.scrub.specs.Telling.{AreOfPage, StandTwice}
 use Rattle.volume_turns.specs.Causes.{HasVolume}
-use Rattle.volume_turns.specs.Reasons.{BecauseCalled, BecauseDeleted, BecauseListed, BecauseMoved, BecauseRead, BecauseScrubbed, BecauseUpgraded, HasScrubbed, HasWritten}
+use Rattle.volume_turns.specs.Reasons.{BecauseCalled, BecauseDeleted, BecauseListed, BecauseLoaded, BecauseMoved, BecauseRead, BecauseScrubbed, BecauseUpgraded, HasScrubbed, HasWritten}
 
 -- ---- refusals
 
@@ -37,9 +37,17 @@ LacksRoom len (Why.NameTableFull free) = free < least_pages
 LacksRoom len Why.VersionsUsedUp = ⊤
 LacksRoom len why = ⊥
 
--- a put of so many bytes is refused for its keep or for these, or else since room is wanting
+-- a version of so many bytes is refused for its keep or for these, or else for this
+abbrev pub RefusesMaking : (Lacks : Refusal → Type 0) → (keep len : ℕ) → Refusal → Type 0
+RefusesMaking Lacks keep len why = let size = size_fault keep len in (size ≡ Some why) ⊎ ((size ≡ None) × Lacks why)
+
+-- a put, since room is wanting
 abbrev pub RefusesPut : (keep : Option ℕ) → (len : ℕ) → Refusal → Type 0
-RefusesPut keep len why = let size = size_fault (keep_given keep) len in (size ≡ Some why) ⊎ ((size ≡ None) × LacksRoom len why)
+RefusesPut keep len why = RefusesMaking (LacksRoom len) (keep_given keep) len why
+
+-- a load also since the version is there
+abbrev pub RefusesLoad : (keep len : ℕ) → Refusal → Type 0
+RefusesLoad keep len why = RefusesMaking (λ w. (w ≡ Why.Exists) ⊎ LacksRoom len w) keep len why
 
 -- a new keep is refused as too large, or is not, and the name has no version
 abbrev pub RefusesKeep : (keep : ℕ) → Refusal → Type 0
@@ -72,6 +80,9 @@ MayReply (Word.Keep name keep) i reply = ⊥
 MayReply (Word.Move key name) i (Said.Moved from to) = (from ≡ key) × (to.name ≡ name)
 MayReply (Word.Move key name) i (Said.Refused why) = RefusesMove why
 MayReply (Word.Move key name) i reply = ⊥
+MayReply (Word.Load key keep bytes) i (Said.Loaded k) = (k ≡ key) × (size_fault keep (length bytes) ≡ None)
+MayReply (Word.Load key keep bytes) i (Said.Refused why) = RefusesLoad keep (length bytes) why
+MayReply (Word.Load key keep bytes) i reply = ⊥
 MayReply (Word.Get key) i (Said.Bytes k bytes) = k ≡ key
 MayReply (Word.Get key) i (Said.DamagedAt k s) = (k ≡ key) × HasDamaged i s
 MayReply (Word.Get key) i (Said.Refused why) = why ≡ Why.NoSuch
@@ -102,6 +113,7 @@ may_write (Word.Put name bytes keep) s = put_writes s (sectors_for (length bytes
 may_write (Word.Delete key) s = force_writes s.layout
 may_write (Word.Keep name keep) s = force_writes s.layout
 may_write (Word.Move key name) s = force_writes s.layout
+may_write (Word.Load key keep bytes) s = put_writes s (sectors_for (length bytes))
 may_write Word.Force s = force_writes s.layout
 may_write Word.Tick s = force_writes s.layout
 may_write Word.Scrub s = scrub_writes s.layout
@@ -116,6 +128,7 @@ KeepsState (Word.Put name bytes keep) s t = ⊤
 KeepsState (Word.Delete key) s t = ⊤
 KeepsState (Word.Keep name keep) s t = ⊤
 KeepsState (Word.Move key name) s t = ⊤
+KeepsState (Word.Load key keep bytes) s t = ⊤
 KeepsState Word.Force s t = ⊤
 KeepsState Word.Tick s t = ⊤
 KeepsState Word.Scrub s t = s.dirty ≡ [] → t ≡ s
@@ -127,13 +140,14 @@ KeepsState command s t = t ≡ s
 abbrev pub WritesForce : (sectors : ℕ) → (old mounted new : Moment) → Type 0
 WritesForce sectors old mounted new = Ages mounted new ⊎ ((volume : HasVolume sectors old) × Touches (force_writes volume.layout) mounted new)
 
--- What is written behind the mount: nothing by a command that only reads; by an upgrade only the roots; by another that is
--- no put, only where a force writes, and by a scrub also roots and in the data area.
+-- What is written behind the mount: nothing by a command that only reads; by an upgrade only the roots; by another that
+-- makes no version, only where a force writes, and by a scrub also roots and in the data area.
 abbrev pub WritesBehind : Command → (sectors : ℕ) → (old mounted new : Moment) → Type 0
 WritesBehind (Word.Put name bytes keep) sectors old mounted new = ⊤
 WritesBehind (Word.Delete key) sectors old mounted new = WritesForce sectors old mounted new
 WritesBehind (Word.Keep name keep) sectors old mounted new = WritesForce sectors old mounted new
 WritesBehind (Word.Move key name) sectors old mounted new = WritesForce sectors old mounted new
+WritesBehind (Word.Load key keep bytes) sectors old mounted new = ⊤
 WritesBehind Word.Force sectors old mounted new = WritesForce sectors old mounted new
 WritesBehind Word.Tick sectors old mounted new = WritesForce sectors old mounted new
 WritesBehind Word.Scrub sectors old mounted new = Ages mounted new ⊎ ((volume : HasVolume sectors old) × Touches (scrub_writes volume.layout) mounted new)
@@ -148,6 +162,7 @@ most_written (Word.Put name bytes keep) s = put_len s (sectors_for (length bytes
 most_written (Word.Delete key) s = change_len s
 most_written (Word.Keep name keep) s = change_len s
 most_written (Word.Move key name) s = change_len s
+most_written (Word.Load key keep bytes) s = put_len s (sectors_for (length bytes))
 most_written Word.Force s = force_len s
 most_written Word.Tick s = force_len s
 most_written Word.Scrub s = force_len s
@@ -178,6 +193,7 @@ module _ {S : Type 0} (state : S → State) (resident : S → ℕ → Option (Li
   Because (Word.Delete key) s t old new reply = BecauseDeleted state resident key s t old new reply
   Because (Word.Keep name keep) s t old new reply = ⊤
   Because (Word.Move key name) s t old new reply = BecauseMoved state resident key s t old new reply
+  Because (Word.Load key keep bytes) s t old new reply = BecauseLoaded state resident key s t old new reply
   Because (Word.List pattern) s t old new reply = BecauseListed state resident pattern s t old new reply
   Because (Word.Get key) s t old new reply = BecauseRead state resident key s t old new reply
   Because Word.Force s t old new reply = ⊤

@@ -124,6 +124,11 @@ module _ {S : Type 0} (state : S → State) (resident : S → ℕ → Option (Li
   BecauseMoved key s t old new (Said.Moved k to) = Showed s t old new (λ from. HasKey key)
   BecauseMoved key s t old new reply = ⊤
 
+  -- One is there under whose key a version was to be loaded.
+  abbrev pub BecauseLoaded : Key → (s t : State) → (old new : Moment) → Reply → Type 0
+  BecauseLoaded key s t old new (Said.Refused why) = why ≡ Why.Exists → Showed s t old new (λ from. HasKey key)
+  BecauseLoaded key s t old new reply = ⊤
+
   abbrev pub BecauseListed : Pattern → (s t : State) → (old new : Moment) → Reply → Type 0
   BecauseListed pattern s t old new (Said.Listed entries) = ListsAll pattern s t old new entries
   BecauseListed pattern s t old new reply = ⊤

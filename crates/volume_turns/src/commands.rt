@@ -1,6 +1,7 @@
 //! One command over a mounted volume.
-ghost use Rattle.std.specs.Prelude.{◌≡◌, ◌⊎◌, ◌<◌, ◌≤◌, false, None, IfSome, take};
+ghost use Rattle.std.specs.Prelude.{◌≡◌, ◌⊎◌, ◌<◌, ◌≤◌, false, None, IfSome, IsTrue, take};
 ghost use Rattle.std.specs.Bool.{MatchBool};
+ghost use Rattle.fsd_bytes.specs.Keys.{is_key};
 ghost use Rattle.fsd_formats.specs.NamePage.{max_length, sectors_for};
 ghost use Rattle.fsd_files.specs.Answers.{entry_of};
 ghost use Rattle.fsd_files.specs.declared.reply.Reply.TheVariants as Said;
@@ -38,6 +39,25 @@ pub(crate) fn put<M: Machine, V: Files<M>>(
             key,
             sectors: sectors_of(bytes.len()),
         }),
+        Err(why) => ended_by(why),
+    }
+}
+
+// Makes a version under a key of its own.
+pub(crate) fn load<M: Machine, V: Files<M>>(
+    v: &mut V,
+    m: &mut M,
+    key: &Key,
+    keep: u32,
+    bytes: &[u8],
+) -> Result<Reply, Fault>
+    requires room { (V.state v.old).layout.sectors ≤ (M.report m.old).sectors }
+    requires up { (V.state v.old).down ≡ None }
+    requires key { IsTrue (is_key key.now) }
+    ensures { Did M.Machine V.state V.holds V.resident (Word.Load key.now keep bytes.now) v.old v.new m.old m.new result }
+{
+    match v.load(m, key, keep, bytes) {
+        Ok(()) => Ok(Reply::Loaded(key.copied())),
         Err(why) => ended_by(why),
     }
 }
@@ -197,6 +217,7 @@ pub(crate) fn answer<M: Machine, V: Files<M>>(
         Command::Delete(key) => delete(v, m, key),
         Command::Keep { name, keep } => set_keep(v, m, name, *keep),
         Command::Move { key, name } => move_version(v, m, key, name),
+        Command::Load { key, keep, bytes } => load(v, m, key.as_key(), *keep, bytes.as_slice()),
         Command::Get(key) => get(alloc, v, m, key),
         Command::Force => force(v, m),
         Command::Tick => tick(v, m),

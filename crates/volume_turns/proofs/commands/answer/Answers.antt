@@ -12,6 +12,9 @@ returns-in-Keep g c = rw c.in-Keep.is c.set_keep.ensures
 pub returns-in-Move : goal.returns-in-Move
 returns-in-Move g c = rw c.in-Move.is c.move_version.ensures
 
+pub returns-in-Load : goal.returns-in-Load
+returns-in-Load g c = rw c.in-Load.is c.load.ensures
+
 pub returns-in-Get : goal.returns-in-Get
 returns-in-Get g c = rw c.in-Get.is c.get.ensures
 

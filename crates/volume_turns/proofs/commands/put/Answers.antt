@@ -63,7 +63,7 @@ returns-in-Err g c =
     rw c.ended_by.ensures.is
     (refused_did M V.state V.holds a b V.resident (Word.Put name bytes keep) v w e.writes.rest tt (put_goes s (V.state w) why keep (length bytes) e.keeps.kept)
     (steps_of s size rest) why up e.order.follows (never_down s up size rest sizes others why e.order.follows) (λ comes. (worn_by s up size rest sizes others comes).1) e.keeps.state (leaves_stay M V.state V.holds a b v (put_writes s need) e.disk) e.tells.causes
-    refl (λ h. put_refused s up name bytes keep (M.now b).image why e.order.follows) e.writes.counted (λ h. tt)
+    refl (λ h. put_refused s up bytes (M.now b).image why name keep e.order.follows) e.writes.counted (λ h. tt)
     (λ h k stands.
     refused_does V.state V.holds (Word.Put name bytes keep) v w k (M.now a) (M.now b) (λ met. put_outcome met (volume_of k) name bytes keep) (λ met. refl) (λ met. tt) why refl
     (λ other may. unworn_by s up size rest sizes others why e.order.follows other (is_no_fault size may))

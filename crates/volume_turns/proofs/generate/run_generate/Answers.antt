@@ -59,5 +59,5 @@ returns-in-Err g c =
       all = λ zero h. absurd (fault_not_zero why status line.status zero);
       leaves = λ h input rest was at held.
           refused_leaves x g.V.Files.state g.V.Files.holds (Generate c.args.seed c.args.count) input rest was h (g.met.M.Machine.short c.mount.new.m) (λ y t. g.met.M.Machine.counts_now y t)
-          (timed_by M g.met.M.Machine.dated g.met.M.Machine.history g.met.M.Machine.counts_now g.met.M.Machine.only_now) at held (e.sound (line.says.trust.honest h) was.layout was.windows was.changes was.forced at) (some_turn c.args.seed c.args.count input);
+          (timed_by M g.met.M.Machine.dated g.met.M.Machine.history g.met.M.Machine.counts_now g.met.M.Machine.only_now) at held (e.sound (line.says.trust.honest h) was.layout was.windows was.changes was.forced at) (some_turn c.args.seed c.args.count input) (λ Passed base v i none. tt);
     }

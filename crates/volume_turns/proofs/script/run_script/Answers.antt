@@ -87,5 +87,5 @@ returns-in-Err g c =
       image = refused_image x true AreOfPage None;
       leaves = λ h was at held.
           refused_leaves x g.V.Files.state g.V.Files.holds Script (M.ledger c.args.m.now).input (M.ledger c.end_with.new.m).input was h (g.met.M.Machine.short c.mount.new.m) (λ y t. g.met.M.Machine.counts_now y t)
-          (timed_by M g.met.M.Machine.dated g.met.M.Machine.history g.met.M.Machine.counts_now g.met.M.Machine.only_now) at held (e.sound (line.says.trust.honest h) was.layout was.windows was.changes was.forced at) (some_forced (M.ledger c.args.m.now).input);
+          (timed_by M g.met.M.Machine.dated g.met.M.Machine.history g.met.M.Machine.counts_now g.met.M.Machine.only_now) at held (e.sound (line.says.trust.honest h) was.layout was.windows was.changes was.forced at) (some_forced (M.ledger c.args.m.now).input) (λ Passed base v i none. tt);
     }

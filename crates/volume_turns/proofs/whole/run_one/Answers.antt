@@ -61,5 +61,5 @@ returns-in-Err g c =
       healed = λ h of. absurd (fault_unhealed why status line.status of);
       leaves = λ h rest was at held.
           refused_leaves x g.V.Files.state g.V.Files.holds (One c.args.c.now) [] rest was h (g.met.M.Machine.short c.mount.new.m) (λ y t. g.met.M.Machine.counts_now y t)
-          (timed_by M g.met.M.Machine.dated g.met.M.Machine.history g.met.M.Machine.counts_now g.met.M.Machine.only_now) at held (e.sound (line.says.trust.honest h) was.layout was.windows was.changes was.forced at) (some_one c.args.c.now);
+          (timed_by M g.met.M.Machine.dated g.met.M.Machine.history g.met.M.Machine.counts_now g.met.M.Machine.only_now) at held (e.sound (line.says.trust.honest h) was.layout was.windows was.changes was.forced at) (some_one c.args.c.now) (λ Passed base v i none. tt);
     }
