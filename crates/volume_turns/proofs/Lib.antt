@@ -21,6 +21,7 @@ pub mod InputLaws
 pub mod LastLaws
 pub mod LineLaws
 pub mod LoadingLaws
+pub mod LookingLaws
 pub mod ListLaws
 pub mod MountLaws
 pub mod NumberLaws

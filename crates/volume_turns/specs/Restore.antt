@@ -1,11 +1,12 @@
 -- A restore over a mounted volume: what it looks up, and how it goes up to the line that is said once all is forced.
-use Rattle.std.specs.Prelude.{◌≡◌, ◌⊎◌, ⊤, ◌≤◌, ℕ, List, Option, Some, None, Result, Ok, Err, IfErr, IfOk}
+use Rattle.std.specs.Prelude.{◌≡◌, ◌⊎◌, ⊤, ◌≤◌, ℕ, Bool, false, List, Option, Some, None, Result, Ok, Err, IfErr, IfOk}
 use Rattle.volume_layout.specs.declared.layout.Layout.{Layout}
 use Rattle.fsd_log.specs.Scan.{Placed}
 use Rattle.sector_disk.specs.declared.machine.Machine.{Ghosts}
 use Rattle.sector_disk.specs.Calls.{OnlyReads, StopsOnly}
 use Rattle.fsd_files.specs.Disk.{in_runs}
 use Rattle.fsd_files.specs.Volume.{Volume}
+use Rattle.fsd_files.specs.declared.reply.Reply.{Reply}
 use Rattle.fsd_sound.specs.Mounted.{Mounted}
 use Rattle.fsd_texts.specs.declared.fault.Fault.{Fault}
 use Rattle.fsd_texts.specs.declared.fault.Fault.TheVariants as Ends
@@ -34,6 +35,11 @@ IsRestoreStatus status = (status ≤ 1) ⊎ IsStatusBroken status
 abbrev pub FindsOr : {R : Type 0} → (R → Type 0) → Result R Fault → Type 0
 FindsOr Found (Ok x) = Found x
 FindsOr Found (Err fault) = EndsAtOnce fault
+
+-- a refusal that is said tells that there is none
+abbrev pub none_unless : Result Reply Fault → Result Bool Fault
+none_unless (Ok reply) = Ok false
+none_unless (Err fault) = Err fault
 
 -- Something is looked up in the table, and all stays as it is.
 pub record LooksFor {D S R : Type 0} (M : Ghosts D) (state : S → State) (has : S → Mounted → List Placed → Type 0) (Found : Volume → R → Type 0) (old new : S) (a b : D) (result : Result R Fault) : Type 0 where

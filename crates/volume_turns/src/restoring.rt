@@ -13,7 +13,8 @@ ghost use Rattle.volume_contract.specs.State.{IsNew, Known, Stands, forced_of, n
 ghost use Rattle.scrub.specs.Telling.{AreOfPage};
 ghost use Rattle.volume_turns.specs.Causes.{TellsImage};
 ghost use Rattle.volume_turns.specs.Line.{is_unsaid};
-ghost use Rattle.volume_turns.specs.Restore.{EndsSaying, IsRestoreStatus, LooksFor, Restores};
+ghost use Rattle.volume_turns.specs.Restore.{EndsSaying, IsRestoreStatus, LooksFor, Restores, none_unless};
+ghost use Rattle.volume_turns.specs.Steps.{ended_by};
 ghost use Rattle.volume_turns.specs.Running.{EndsMounted, EndsRun, LeavesOver, TakesInput, TakesNothing, TakesToEnd, TellsMounted};
 ghost use Rattle.volume_turns.specs.Status.{IsPutStatus};
 ghost use Rattle.volume_turns.specs.Turns.{OnDisk};
@@ -27,12 +28,22 @@ use crate::once::{close_and_say, fault_of};
 use crate::taking::{InputFault, read_input};
 use crate::turns::Halt;
 use dump_text::{DumpRead, Item, read_dump};
-use fsd_bytes::Key;
+use fsd_bytes::{Key, Refusal};
 use fsd_texts::{Fault, Line};
 use script_text::lay_line;
 use sector_disk::Machine;
 use std::alloc::Global;
 use volume_contract::Files;
+
+// By the refusal of a look-up: that there is none, or the fault that has ended it.
+fn unfound(why: Refusal) -> Result<bool, Fault>
+    ensures { result ≡ none_unless (ended_by why) }
+{
+    match ended_by(why) {
+        Ok(_) => Ok(false),
+        Err(fault) => Err(fault),
+    }
+}
 
 // Whether there is a version of this key.
 fn is_there<M: Machine, V: Files<M>>(v: &mut V, m: &mut M, key: &Key) -> Result<bool, Fault>
@@ -42,10 +53,7 @@ fn is_there<M: Machine, V: Files<M>>(v: &mut V, m: &mut M, key: &Key) -> Result<
 {
     match v.entry(m, key) {
         Ok(_) => Ok(true),
-        Err(why) => match ended_by(why) {
-            Ok(_) => Ok(false),
-            Err(fault) => Err(fault),
-        },
+        Err(why) => unfound(why),
     }
 }
 
