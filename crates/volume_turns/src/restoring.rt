@@ -68,8 +68,9 @@ fn first_there<M: Machine, V: Files<M>>(
     ensures { (bytes : List ℕ) → LooksFor M.Machine V.state V.holds (λ x key. key ≡ first_of (map (dumped bytes) items.now) x.entries) v.old v.new m.old m.new result }
 {
     for place in 0..items.len() {
-        match is_there(v, m, &items[place].key) {
-            Ok(true) => return Ok(Some(items[place].key.copied())),
+        let key = &items[place].key;
+        match is_there(v, m, key) {
+            Ok(true) => return Ok(Some(key.copied())),
             Ok(false) => {}
             Err(fault) => return Err(fault),
         }
