@@ -34,6 +34,7 @@ pub mod QuietLaws
 pub mod ReadLaws
 pub mod ReadingLaws
 pub mod ReasonLaws
+pub mod RestoreLaws
 pub mod RunLaws
 pub mod SaidLaws
 pub mod SayLaws
