@@ -130,13 +130,17 @@ module _ {D E : Type 0} {M : MachineGhosts D} {S : SourceGhosts E} where
     pub changes_left : (more : ℕ) → 96 - length a.cache.now.dirty ≤ 96 - length b.cache.now.dirty + more → DirtiesAtMost more cache.now cache'
     changes_left more fewer = record { few = omega (arith, fewer, ap (λ (x : MutBor CacheValue). length x.now.dirty) over.cached, ap (λ (d : List ℕ). length d) left.pins.dirty) }
 
-    pub stays_left : {T F : Type 0} (r : Result T F) → OnErr r (ChangesNone (Trusted b) (step_of a) (step_of b)) → OnErr r (StaysInCache M S source m.now m' cache.now cache' free.now free')
-    stays_left (Ok x) none = tt
-    stays_left (Err fault) none = record {
+    -- where nothing was changed all stays
+    pub stays_in : ChangesNone (Trusted b) (step_of a) (step_of b) → StaysInCache M S source m.now m' cache.now cache' free.now free'
+    stays_in none = record {
       dirty = left.pins.dirty ∙ none.changed ∙ ap (λ (x : MutBor CacheValue). x.now.dirty) over.cached;
       same_flags = left.flags ∙ none.spares ∙ flags_first;
       images = λ t. images_last ∙ none.images (trusted_b t) ∙ images_first;
     }
+
+    pub stays_left : {T F : Type 0} (r : Result T F) → OnErr r (ChangesNone (Trusted b) (step_of a) (step_of b)) → OnErr r (StaysInCache M S source m.now m' cache.now cache' free.now free')
+    stays_left (Ok x) none = tt
+    stays_left (Err fault) none = stays_in none
 
     -- why it failed
     pub faults_left : (step_of b).home_a ≡ (step_of a).home_a → {T : Type 0} (r : Result T TreeFault) → IfErr r (λ fault. Trusted b → HasTreeCause (step_of b) (BreaksTable (step_of b).images) (BarsTable (step_of b)) fault)
@@ -164,7 +168,7 @@ module _ {D E : Type 0} {M : MachineGhosts D} {S : SourceGhosts E} where
     none_left same_home {T = T} name (Err fault) none = record { kept = stays_left {T = T} {F = VersionFault} (Err fault) none.kept; cause = keeps_left same_home {T = T} name (Err fault) none.cause }
 
     -- what holds of the table that there was
-    of_left : (Is : List Entry → Type 0) → (Trusted b → (height : ℕ) → IsTree (step_of a).images height → Is (table_of (step_of a).images height)) → OfTableIn M S source m.now m' cache.now free.now Is
+    pub of_left : (Is : List Entry → Type 0) → (Trusted b → (height : ℕ) → IsTree (step_of a).images height → Is (table_of (step_of a).images height)) → OfTableIn M S source m.now m' cache.now free.now Is
     of_left Is h t height tree = subst (λ (p : List (List ℕ)). Is (table_of p height)) images_first (h (trusted_b t) height (subst (λ (p : List (List ℕ)). IsTree p height) (sym images_first) tree))
 
     pub of_so : {X F : Type 0} (Is : X → List Entry → Type 0) (r : Result X F) → IfOk r (λ x. Trusted b → (height : ℕ) → IsTree (step_of a).images height → Is x (table_of (step_of a).images height))
@@ -172,15 +176,12 @@ module _ {D E : Type 0} {M : MachineGhosts D} {S : SourceGhosts E} where
     of_so Is (Err fault) h = tt
     of_so Is (Ok x) h = of_left (Is x) h
 
-    -- why no version was entered
-    pub refuses_left : {T : Type 0} (Untaken UsedUp Usable : List Entry → Type 0) (r : Result T Refusal)
-        → IfErr r (RefusesFor (Trusted b → (page : ℕ) × BarsTable (step_of b) page) (Trusted b → (height : ℕ) → IsTree (step_of a).images height → Untaken (table_of (step_of a).images height))
-        (Trusted b → (height : ℕ) → IsTree (step_of a).images height → UsedUp (table_of (step_of a).images height))
-        (Trusted b → (height : ℕ) → IsTree (step_of a).images height → Usable (table_of (step_of a).images height)) (spare_count (step_of a)))
-        → IfErr r (NoneIn M S source Untaken UsedUp Usable m.now m' cache.now cache' free.now free')
-    refuses_left Untaken UsedUp Usable (Ok x) none = tt
-    refuses_left Untaken UsedUp Usable (Err why) none = record {
-      cause = refuses_so (spare_count (step_of a)) (count_by (λ spare. spare) free.now) (ap spare_count begins) barred (of_left Untaken) (of_left UsedUp) (of_left Usable) why none;
+    -- why no version was entered, whatever else may bar it
+    pub refuses_by : {T : Type 0} (Untaken UsedUp Usable Untaken' UsedUp' Usable' : Type 0) → (Untaken → Untaken') → (UsedUp → UsedUp') → (Usable → Usable') → (r : Result T Refusal)
+        → IfErr r (RefusesFor (Trusted b → (page : ℕ) × BarsTable (step_of b) page) Untaken UsedUp Usable (spare_count (step_of a))) → IfErr r (NoneIn M S source Untaken' UsedUp' Usable' m.now m' cache.now cache' free.now free')
+    refuses_by Untaken UsedUp Usable Untaken' UsedUp' Usable' untaken used usable (Ok x) none = tt
+    refuses_by Untaken UsedUp Usable Untaken' UsedUp' Usable' untaken used usable (Err why) none = record {
+      cause = refuses_so (spare_count (step_of a)) (count_by (λ spare. spare) free.now) (ap spare_count begins) barred untaken used usable why none;
     }
       where
         barred : (Trusted b → (page : ℕ) × BarsTable (step_of b) page) → IsTrusted M S source m.now cache.now m' → (page : ℕ) × BarsPages (images_by M S source m' cache' (length free')) free' page
@@ -189,3 +190,11 @@ module _ {D E : Type 0} {M : MachineGhosts D} {S : SourceGhosts E} where
               one.0,
               subst (λ (p : List (List ℕ)). BarsPages p free' one.0) (sym images_last) (subst (λ (f : List Bool). BarsPages (step_of b).images f one.0) (sym left.flags) one.1),
             )
+
+    -- by what holds of the table that there was
+    pub refuses_left : {T : Type 0} (Untaken UsedUp Usable : List Entry → Type 0) (r : Result T Refusal)
+        → IfErr r (RefusesFor (Trusted b → (page : ℕ) × BarsTable (step_of b) page) (Trusted b → (height : ℕ) → IsTree (step_of a).images height → Untaken (table_of (step_of a).images height))
+        (Trusted b → (height : ℕ) → IsTree (step_of a).images height → UsedUp (table_of (step_of a).images height))
+        (Trusted b → (height : ℕ) → IsTree (step_of a).images height → Usable (table_of (step_of a).images height)) (spare_count (step_of a)))
+        → IfErr r (NoneIn M S source (OfTableIn M S source m.now m' cache.now free.now Untaken) (OfTableIn M S source m.now m' cache.now free.now UsedUp) (OfTableIn M S source m.now m' cache.now free.now Usable) m.now m' cache.now cache' free.now free')
+    refuses_left Untaken UsedUp Usable = refuses_by _ _ _ _ _ _ (of_left Untaken) (of_left UsedUp) (of_left Usable)

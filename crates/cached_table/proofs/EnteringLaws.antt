@@ -158,7 +158,7 @@ refuses_so free free' same a b c e other h = h
 -- ---- behind a plan
 
 -- the versions that go and were met
-met_shows : {D : Type 0} (P : Ghosts D) (law : Joins P) (map : Area) (w : Waits) (name : List ℕ) (home_a : ℕ) (old now new : D) (gone : List Leaving) (r : Refusal) → OnlyWalks P (outer_refusal r) now new
+pub met_shows : {D : Type 0} (P : Ghosts D) (law : Joins P) (map : Area) (w : Waits) (name : List ℕ) (home_a : ℕ) (old now new : D) (gone : List Leaving) (r : Refusal) → OnlyWalks P (outer_refusal r) now new
     → AllByRecursion (IsMetBetween P name old now) gone → ShowsUntaken home_a map w gone r → ShowsRefusal P map w name home_a old new r
 met_shows P law map w name home_a old now new gone (Why.Unsound s) walks met tells =
     inr (tells.0, All-contains (IsMetBetween P name old new) gone tells.0 (All-from_recursion (IsMetBetween P name old new) gone (met_later P law name old now new gone walks met)) tells.1, tells.2, tells.3)
@@ -199,9 +199,8 @@ entered_each (Ok plan) is enters = is plan enters
 entered_each (Err why) is enters = tt
 
 -- why it is refused, in a cache
-pub record NoneIn {D E : Type 0} (M : MachineGhosts D) (S : SourceGhosts E) (source : E) (Untaken UsedUp Usable : List Entry → Type 0) (m m' : D) (old new : CacheValue) (free flags : List Bool) (refusal : Refusal) : Type 0 where
-  pub cause : RefusesFor (IsTrusted M S source m old m' → (page : ℕ) × BarsPages (images_by M S source m' new (length flags)) flags page)
-      (OfTableIn M S source m m' old free Untaken) (OfTableIn M S source m m' old free UsedUp) (OfTableIn M S source m m' old free Usable) (count_by (λ spare. spare) free) refusal
+pub record NoneIn {D E : Type 0} (M : MachineGhosts D) (S : SourceGhosts E) (source : E) (Untaken UsedUp Usable : Type 0) (m m' : D) (old new : CacheValue) (free flags : List Bool) (refusal : Refusal) : Type 0 where
+  pub cause : RefusesFor (IsTrusted M S source m old m' → (page : ℕ) × BarsPages (images_by M S source m' new (length flags)) flags page) Untaken UsedUp Usable (count_by (λ spare. spare) free) refusal
 
 -- and put together, in a cache
 module _ {D E : Type 0} (M : MachineGhosts D) (S : SourceGhosts E) (source : E) (map : Area) (w : Waits) (name : List ℕ) (m m' : D) (old new : CacheValue) (free flags : List Bool) where
@@ -212,6 +211,7 @@ module _ {D E : Type 0} (M : MachineGhosts D) (S : SourceGhosts E) (source : E) 
   enters_in given draft (Err why) name_is planned taken full made = tt
 
   pub refuses_in : {T : Type 0} (home_a : ℕ) (r : Result T Refusal) → OnErr r (StaysInCache M S source m m' old new free flags) → OnErr r (LooksOnly M S source (outer_in r) m m' old new free)
-      → IfErr r (NoneIn M S source (LosesUntaken map w) (HasNoNumber name) (λ table. (next_key name table).version ≤ max_u32) m m' old new free flags) → IfErr r (ShowsUnsound M S source map w m m' old new free home_a) → IfErr r (RefusesIn M S source map w name m m' old new free flags home_a)
+      → IfErr r (NoneIn M S source (OfTableIn M S source m m' old free (LosesUntaken map w)) (OfTableIn M S source m m' old free (HasNoNumber name)) (OfTableIn M S source m m' old free (λ table. (next_key name table).version ≤ max_u32)) m m' old new free flags)
+      → IfErr r (ShowsUnsound M S source map w m m' old new free home_a) → IfErr r (RefusesIn M S source map w name m m' old new free flags home_a)
   refuses_in home_a (Ok x) kept looks fault shown = tt
   refuses_in home_a (Err why) kept looks fault shown = record { kept = kept; looks = looks; fault = record { cause = fault.cause }; shown = shown }

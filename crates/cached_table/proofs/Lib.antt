@@ -4,6 +4,7 @@ pub mod EnteringLaws
 pub mod HighestLaws
 pub mod HomeReadLaws
 pub mod LeftLaws
+pub mod LoadingLaws
 pub mod LookLaws
 pub mod MetLaws
 pub mod MovingLaws

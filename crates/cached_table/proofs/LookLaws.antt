@@ -88,6 +88,16 @@ module _ {D E : Type 0} {M : MachineGhosts D} {S : SourceGhosts E} where
     leads : (f : FoundEntry) → StandsIn (step_of b) f → IsLedTo (step_of b) f → (pages : List (List ℕ)) → HavePages cache' (length free.now) pages → LeadsTo pages f
     leads f there way pages have = leads_then m cache source free a b over looks f there way pages (have_before pages have)
 
+    -- an entry that is met is found there
+    pub met_left : {Suits Is : Entry → Type 0} → ((e : Entry) → ((pages : List (List ℕ)) → HavePages cache' (length free.now) pages → Agrees pages (step_of b)) → Suits e → Is e)
+        → (f : FoundEntry) → IsMetAs (step_of b) Suits f → IsFoundIn cache' (length free.now) Is f
+    met_left is f met = record {
+      page = within f.page met.there.reached.0;
+      entry = met.entry;
+      suits = is f.entry agrees met.suits;
+      way = leads f met.there met.way;
+    }
+
     -- what is found, or where nothing is, what is in the cache in the end shows why
     pub tells_left : {Lacks : Type 0} {Suits Is : Entry → Type 0} {Absent : List (List ℕ) → Type 0}
         → ((pages : List (List ℕ)) → Agrees pages (step_of b) → Lacks → Absent pages)
@@ -96,12 +106,7 @@ module _ {D E : Type 0} {M : MachineGhosts D} {S : SourceGhosts E} where
         → IfOk r (λ found. MatchOption found (IsOfPages cache' (length free.now) Absent) (IsFoundIn cache' (length free.now) Is))
     tells_left lacks is (Err fault) told = tt
     tells_left lacks is (Ok None) told = λ pages have. lacks pages (agrees pages have) told
-    tells_left lacks is (Ok (Some f)) told = record {
-      page = within f.page told.there.reached.0;
-      entry = told.entry;
-      suits = is f.entry agrees told.suits;
-      way = leads f told.there told.way;
-    }
+    tells_left lacks is (Ok (Some f)) told = met_left is f told
 
     -- ---- what shows that a page breaks
 

@@ -72,7 +72,8 @@ module _ {D E : Type 0} (M : MachineGhosts D) (S : SourceGhosts E) (source : E) 
   moves_in P a b (Err why) at planned full made = tt
 
   pub moves_none : {T : Type 0} (home_a : ℕ) (r : Result T Refusal) → OnErr r (StaysInCache M S source m m' old new free flags) → OnErr r (LooksOnly M S source (outer_in r) m m' old new free)
-      → IfErr r (NoneIn M S source (LosesUntaken map w) (LacksNumber key name) (λ table. (next_key name table).version ≤ max_u32) m m' old new free flags) → IfErr r (ShowsUnsound M S source map w m m' old new free home_a)
+      → IfErr r (NoneIn M S source (OfTableIn M S source m m' old free (LosesUntaken map w)) (OfTableIn M S source m m' old free (LacksNumber key name)) (OfTableIn M S source m m' old free (λ table. (next_key name table).version ≤ max_u32)) m m' old new free flags)
+      → IfErr r (ShowsUnsound M S source map w m m' old new free home_a)
       → IfErr r (MovesNone M S source map w key name m m' old new free flags home_a)
   moves_none home_a (Ok x) kept looks fault shown = tt
   moves_none home_a (Err why) kept looks fault shown = record { kept = kept; looks = looks; fault = fault.cause; shown = shown }

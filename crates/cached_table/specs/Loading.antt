@@ -1,5 +1,5 @@
 -- A version that is loaded into a table over a cache, under a key of its own, and why none is.
-use Rattle.std.specs.Prelude.{◌≡◌, ℕ, ◌≤◌, Bool, List, Option, None, Some, length, count_by}
+use Rattle.std.specs.Prelude.{◌≡◌, ℕ, ◌≤◌, Bool, List, None, Some, length, count_by}
 use Rattle.fsd_bytes.specs.declared.key.Key.{Key}
 use Rattle.fsd_bytes.specs.declared.refusal.Refusal.{Refusal}
 use Rattle.sector_set.specs.Area.{Area}
@@ -7,13 +7,17 @@ use Rattle.sector_disk.specs.declared.machine.Machine.{Ghosts as MachineGhosts}
 use Rattle.shadow_frees.specs.Waits.{Waits}
 use Rattle.fsd_formats.specs.declared.entry.Entry.{Entry}
 use Rattle.fsd_files.specs.Answers.{entry_of, entry_put}
-use Rattle.name_page.specs.Pages.{outer_refusal}
+use Rattle.name_page.specs.declared.pages.Pages.{Ghosts}
+use Rattle.name_page.specs.Looks.{OnlyWalks}
+use Rattle.name_page.specs.Pages.{outer_refusal, spare_count}
+use Rattle.name_btree.specs.Fault.{BarsTable}
+use Rattle.version_table.specs.Table.{MakesTable, OfTable}
 use Rattle.name_btree.specs.declared.lookup.FoundEntry.{FoundEntry}
 use Rattle.page_cache.specs.declared.source.PageSource.{Ghosts as SourceGhosts}
 use Rattle.page_cache.specs.Cache.{CacheValue}
 use Rattle.table_pages.specs.Bringing.{IsTrusted}
 use Rattle.cached_table.specs.Editing.{EditsTable, StaysInCache}
-use Rattle.cached_table.specs.Entering.{OfTableIn, RefusesFor, ShowsUnsound}
+use Rattle.cached_table.specs.Entering.{OfTableIn, RefusesFor, ShowsRefusal, ShowsUnsound}
 use Rattle.cached_table.specs.Finding.{IsFoundIn}
 use Rattle.cached_table.specs.Looking.{BarsPages, LooksOnly, images_by}
 
@@ -44,3 +48,17 @@ module _ {D E : Type 0} (M : MachineGhosts D) (S : SourceGhosts E) (source : E) 
     pub fault : RefusesFor (IsTrusted M S source m old m' → (page : ℕ) × BarsPages (images_by M S source m' new (length flags)) flags page) ⊥ ⊥ (OfTableIn M S source m m' old free (λ table. entry_of key table ≡ None))
         (count_by (λ spare. spare) free) refusal
     pub shown : ShowsUnsound M S source map w m m' old new free home_a refusal
+
+-- ---- over any pages
+
+-- The table has had no version of this key, and has one then.
+pub record LoadsAt {D : Type 0} (P : Ghosts D) (key : Key) (keep : ℕ) (draft : Entry) (old new : D) : Type 0 where
+  pub absent : OfTable P old new (λ table. entry_of key table ≡ None)
+  pub room : 8 ≤ spare_count (P.step old)
+  pub made : MakesTable P old new (entry_put (entry_drafted key keep draft))
+
+-- Pages were reached, and nothing else, until it was refused, for a cause; what was reached shows it.
+pub record RefusesLoad {D : Type 0} (P : Ghosts D) (key : Key) (map : Area) (w : Waits) (home_a : ℕ) (old new : D) (refusal : Refusal) : Type 0 where
+  pub kept : OnlyWalks P (outer_refusal refusal) old new
+  pub fault : RefusesFor (P.trusted new → (page : ℕ) × BarsTable (P.step new) page) ⊥ ⊥ (OfTable P old new (λ table. entry_of key table ≡ None)) (spare_count (P.step old)) refusal
+  pub shown : ShowsRefusal P map w key.name home_a old new refusal

@@ -4,6 +4,7 @@
 mod changing;
 mod entering;
 mod homes;
+mod loading;
 mod looking;
 mod moving;
 mod opening;

@@ -3,11 +3,12 @@ ghost use Rattle.std.specs.Prelude.{◌≡◌, IfOk, codes, fold};
 ghost use Rattle.clap.specs.Matches.{found_of};
 ghost use Rattle.clap.specs.Simple.{app_of, new_app};
 ghost use Rattle.clap.specs.Walk.{rows_of};
-ghost use Rattle.fsd_runs.specs.Words.{cfs, reads_fields, reads_format, reads_generate, reads_keep, reads_move, reads_put};
+ghost use Rattle.fsd_runs.specs.Words.{cfs, reads_dump, reads_fields, reads_format, reads_generate, reads_keep, reads_move, reads_put};
 ghost use Rattle.command_words.specs.CommandSet.{IsCommand, shape_of, with_row};
 
 use crate::field::{field, keep_of, key_of, layout_of, name_of, number_at, pattern_of, seed_of};
 use clap::{Arg, ArgMatches, Command};
+use fsd_bytes::Serial;
 use fsd_runs::Request;
 use fsd_texts::{Cause, Command as Word};
 use std::alloc::{AllocError, Global};
@@ -21,7 +22,7 @@ struct Row<'a> {
 
 // Their order is that of the definition `cfs`, and so it is in any build that is proved: the contract of `command_set`
 // says that the two are one.
-const ROWS: [Row<'static>; 13] = [
+const ROWS: [Row<'static>; 15] = [
     Row {
         name: "format",
         positionals: &["image", "n", "t", "p"],
@@ -69,6 +70,16 @@ const ROWS: [Row<'static>; 13] = [
     },
     Row {
         name: "upgrade",
+        positionals: &["image"],
+        options: &[],
+    },
+    Row {
+        name: "dump",
+        positionals: &["image", "e", "c"],
+        options: &[],
+    },
+    Row {
+        name: "restore",
         positionals: &["image"],
         options: &[],
     },
@@ -147,6 +158,8 @@ pub(crate) fn read_fields(name: &str, fields: &ArgMatches<'_>) -> Result<Request
         "stat" => Ok(Request::One(Word::Stat)),
         "scrub" => Ok(Request::One(Word::Scrub)),
         "upgrade" => Ok(Request::One(Word::Upgrade)),
+        "dump" => read_dump(fields),
+        "restore" => Ok(Request::Restore),
         "script" => Ok(Request::Script),
         "generate" => read_generate(fields),
         "drill" => Ok(Request::Drill),
@@ -191,6 +204,14 @@ fn read_move(fields: &ArgMatches<'_>) -> Result<Request, Cause>
     let key = key_of(field(fields, "key"))?;
     let name = name_of(field(fields, "name"))?;
     Ok(Request::One(Word::Move { key, name }))
+}
+
+fn read_dump(fields: &ArgMatches<'_>) -> Result<Request, Cause>
+    ensures { result ≡ reads_dump (rows_of (found_of fields.now)) }
+{
+    let epoch = number_at(fields, "e")?;
+    let count = number_at(fields, "c")?;
+    Ok(Request::Dump(Serial { epoch, count }))
 }
 
 fn read_generate(fields: &ArgMatches<'_>) -> Result<Request, Cause>

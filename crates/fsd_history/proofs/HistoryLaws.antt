@@ -1,10 +1,11 @@
 -- Runs one after another are told by files alone.
-use Rattle.std.proofs.Common.{◌≡◌, ◌⊎◌, inl, inr, ⊎_elim, ℕ, zero, suc, ◌+◌, ◌-◌, ◌≤◌, List, [], ◌∷◌, ◌++◌, length, take, Option, Some, None, Result, Ok, Err, refl, sym, ap, subst, ◌∙◌, arith}
+use Rattle.std.proofs.Common.{◌≡◌, ◌⊎◌, inl, inr, ⊎_elim, ℕ, suc, ◌+◌, ◌-◌, ◌≤◌, List, [], ◌∷◌, ◌++◌, length, take, Option, Some, None, Result, Ok, Err, refl, sym, ap, subst, ◌∙◌, arith}
 use Rattle.std.specs.Prelude.{IsSome, nat_le, ◌^◌, slice_get}
-use Rattle.std.specs.List.{fold}
+use Rattle.std.specs.List.{concat, fold}
 use Rattle.std.proofs.lemmas.List.{length-append, length-take-le, take_all}
 use Rattle.std.proofs.lemmas.List.Sums.{fold-append}
-use Rattle.std.proofs.Math.Seq.{take-append-add}
+use Rattle.std.proofs.Math.Seq.{take-append-add, take-nil}
+use Rattle.fsd_bytes.specs.declared.key.Serial.{Serial}
 use Rattle.fsd_bytes.specs.Names.{is_between}
 use Rattle.volume_layout.specs.declared.kind.Kind.{Kind}
 use Rattle.volume_layout.specs.declared.layout.Layout.{Layout}
@@ -34,9 +35,10 @@ use Rattle.fsd_texts.specs.declared.fault.Fault.TheVariants as Ended
 use Rattle.fsd_texts.specs.declared.script_command.ScriptCommand.{ScriptCommand}
 use Rattle.fsd_runs.specs.declared.request.Request.{Request}
 use Rattle.fsd_runs.specs.declared.request.Request.TheVariants as Asks
-use Rattle.fsd_runs.specs.Errands.{Errand, IfMounts, Turn, blank, fault_status}
+use Rattle.fsd_runs.specs.Dumps.{dump_of}
+use Rattle.fsd_runs.specs.Errands.{Answered, ByFault, ByRefusal, BySector, Cut, Damages, Errand, IfMounts, Turn, blank, fault_status}
 use Rattle.fsd_runs.specs.Leaves.{IsBrokenOff, IsReplied, IsSoundAsSaid, IsSpent, IsUnderWay, IsUndone, IsUnsaid, Left, LeftBefore, LeftByTurns, LeavesMounted, LeavesUnmounted, SaysNext, Unbegun, Whatever}
-use Rattle.fsd_runs.specs.Runs.{Goes, IsCutAt, IsThrough, Starts, StoodAt, changes_in, errand_in, run_end, run_status, run_turns}
+use Rattle.fsd_runs.specs.Runs.{Goes, GoesSo, IsCutAt, IsDumpedSo, IsThrough, Starts, StoodAt, answered, changes_in, errand_in, run_end, run_status, run_turns}
 use Rattle.fsd_runs.specs.Sessions.{Meeting, answer_in, session_over}
 use Rattle.fsd_runs.proofs.LeaveLaws.{replied_held}
 use Rattle.cfs_program.specs.Formatting.{HoldsVolume, IsMadeBy}
@@ -99,6 +101,8 @@ mounts_give (Asks.Put name keep) P mounts p = p
 mounts_give (Asks.One command) P mounts p = p
 mounts_give Asks.Script P mounts p = p
 mounts_give (Asks.Generate seed count) P mounts p = p
+mounts_give (Asks.Dump since) P mounts p = p
+mounts_give Asks.Restore P mounts p = p
 mounts_give Asks.NoCommand P mounts p = absurd mounts
 mounts_give (Asks.BadField cause) P mounts p = absurd mounts
 mounts_give (Asks.Format n t k kind) P mounts p = absurd mounts
@@ -117,6 +121,25 @@ goes_meet hurt Past t Last e said i s [] commands goes = tt
 goes_meet hurt Past t Last e said i s (x ∷ xs) [] goes = absurd goes
 goes_meet hurt Past t Last e said i s (x ∷ xs) (command ∷ commands) (j, at, goes) =
     (j, stood_there Past t said j at.exit, at.may, goes_meet hurt Past t Last e (said ++ e.says (answer_in x s command).0) j (answer_in x s command).1 xs commands goes)
+
+-- what was said by the time of an image is left out
+stood_on : (Past : ℕ → Moment → Type 0) (t : ℕ) (said other : List ℕ) (i : Image) → StoodAt (Past t) said i → StoodAt (λ c. OfPast Past c.image) other i
+stood_on Past t said other i stood = record { moment = record stood.moment { said = other }; passed = (t, stood.moment, stood.passed, refl); image = stood.image; so_far = refl }
+
+dump_so : (since : Serial) (cut : Cut) (Past : ℕ → Moment → Type 0) (t : ℕ) (base other : List ℕ) (v : Volume) (i : Image) → IsDumpedSo since cut (Past t) base v i → IsDumpedSo since cut (λ c. OfPast Past c.image) other v i
+dump_so since None Past t base other v i so = so
+dump_so since (Some (Damages found)) Past t base other v i (some, (j, stood, picks)) = (some, (j, stood_on Past t base other j stood, picks))
+dump_so since (Some (BySector k s)) Past t base other v i (whole, (j, stood, spoilt)) =
+    let front = concat (take (suc k) (dump_of since v)) in
+    (whole, (j, stood_on Past t (base ++ front) (other ++ front) j stood, spoilt))
+dump_so since (Some (ByFault k why)) Past t base other v i so = absurd so
+dump_so since (Some (ByRefusal k)) Past t base other v i so = absurd so
+
+goes_so : (request : Request) (cut : Cut) (Past : ℕ → Moment → Type 0) (t : ℕ) (base other : List ℕ) (v : Volume) (i : Image) (done : List Answered) → GoesSo request cut (Past t) base v i done
+    → GoesSo request cut (λ c. OfPast Past c.image) other v i done
+goes_so (Asks.Dump since) cut Past t base other v i done so = dump_so since cut Past t base other v i so
+goes_so Asks.Restore cut Past t base other v i done so = so
+goes_so request cut Past t base other v i done so = tt
 
 starts_fresh : (l : Layout) (windows : List WeakRun) (h : List Change) (v : Volume) (i : Image) → Starts l windows h v i → IsFresh i (after h) v
 starts_fresh l windows h v i s = record {
@@ -184,7 +207,8 @@ module _ {D : Type 0} (M : Ghosts D) (x : Life D) (h : List Change) (f : ℕ) (l
       cut = m.run.cut;
       may = m.run.may;
       mets = m.run.mets;
-      meets = goes_meet (in_runs (windows ++ m.next ∷ [])) (M.left_since x.to) m.at (IsCutAt m.run.cut) (errand_in x.request input m.run.cut) (M.now x.from).said m.from (session_over m.volume) m.run.mets (errand_in x.request input m.run.cut).commands m.run.goes;
+      meets = goes_meet (in_runs (windows ++ m.next ∷ [])) (M.left_since x.to) m.at (IsCutAt m.run.cut) (errand_in x.request input m.run.cut m.volume) (M.now x.from).said m.from (session_over m.volume) m.run.mets (errand_in x.request input m.run.cut m.volume).commands m.run.goes;
+      so = goes_so x.request m.run.cut (M.left_since x.to) m.at (M.now x.from).said [] m.volume m.from (answered m.run.mets (session_over m.volume) (errand_in x.request input m.run.cut m.volume).commands) m.run.so;
     }
 
     ends_settled : (now : Windows) → now ≡ record { present = Some m.next; next = None } → EndIn now (windows ++ m.next ∷ [])
@@ -362,10 +386,6 @@ made_stands l left planned holds = record {
   };
 }
 
-take_none : (n : ℕ) → ◌≡◌ {A = List Change} (take n []) []
-take_none zero = refl
-take_none (suc n) = refl
-
 pub formatted_tell : {D : Type 0} (M : Ghosts D) (n t p : ℕ) (kind : Kind) (path : List ℕ) (a b : D) (left : Moment) (lives : List (Life D)) → M.honest b → Ran M (Asks.Format n t p kind) path a b 0
     → M.left_since b (M.now b).synced left → AreLives M (IsLeft M left) lives → Tells M [] lives
 formatted_tell M n t p kind path a b left lives honest ran held are = by (plan kind n t p) refl (ran.image refl honest)
@@ -373,7 +393,7 @@ formatted_tell M n t p kind path a b left lives honest ran held are = by (plan k
     from : Standing [] 0 left → Tells M [] lives
     from s =
         let all = all_tell M lives [] 0 (IsLeft M left) (λ m at. left_ready M [] 0 left m s at) (omega arith) are in
-        subst (λ (h : List Change). Tells M (after h) lives) (take_none all.0) all.2
+        subst (λ (h : List Change). Tells M (after h) lives) (take-nil all.0) all.2
 
     by : (r : Result Layout LayoutFault) → plan kind n t p ≡ r → IsMadeBy r (IsHeld M b) → Tells M [] lives
     by (Ok l) planned made = from (made_stands l left (planned_by kind n t p l planned) (made left held))

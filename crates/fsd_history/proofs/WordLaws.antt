@@ -1,20 +1,23 @@
--- What puts and lists say and do, in words of files.
-use Rattle.std.proofs.Common.{◌≡◌, ◌⊎◌, inl, inr, ℕ, zero, suc, Bool, true, false, List, [], ◌∷◌, ◌++◌, length, take, filter, Option, Some, None, refl, sym, ap, subst, ◌∙◌, arith}
+-- What puts, gets, lists and dumps say and do, in words of files.
+use Rattle.std.proofs.Common.{◌≡◌, ◌⊎◌, inl, inr, ℕ, zero, suc, Bool, true, false, List, [], ◌∷◌, ◌++◌, length, map, take, filter, Option, Some, None, refl, sym, ap, subst, ◌∙◌, arith}
 use Rattle.std.specs.Prelude.{nat_lt, if◌then◌else◌}
-use Rattle.std.specs.List.{fold}
+use Rattle.std.specs.List.{AllByRecursion, fold}
 use Rattle.std.specs.FinMap.{find}
 use Rattle.std.proofs.lemmas.List.{append-nil, take_all}
+use Rattle.std.proofs.Math.Seq.{take-nil}
 use Rattle.fsd_bytes.specs.declared.key.Key.{Key}
+use Rattle.fsd_bytes.specs.declared.key.Serial.{Serial}
 use Rattle.fsd_bytes.specs.declared.pattern.Pattern.{Pattern}
 use Rattle.fsd_bytes.specs.declared.pattern.Pattern.TheVariants.{Prefix}
 use Rattle.fsd_bytes.specs.Keys.{fits, key_cmp}
 use Rattle.sector_disk.specs.declared.machine.Machine.{Ghosts}
 use Rattle.sector_disk.specs.Machine.{Moment}
+use Rattle.fsd_files.proofs.EachLaws.{each_taken}
 use Rattle.fsd_files.specs.Answers.{got}
+use Rattle.fsd_files.specs.Desk.{Session}
 use Rattle.fsd_files.specs.Disk.{Image}
 use Rattle.fsd_files.specs.Files.{Change, File, Files, step}
 use Rattle.fsd_files.specs.declared.reply.Reply.{Reply}
-use Rattle.fsd_files.specs.declared.reply.Reply.TheVariants as Said
 use Rattle.fsd_files.specs.Volume.{Volume}
 use Rattle.fsd_texts.specs.declared.command.Command.{Command}
 use Rattle.fsd_texts.specs.declared.command.Command.TheVariants as Word
@@ -24,8 +27,9 @@ use Rattle.fsd_texts.specs.Script.{max_input}
 use Rattle.fsd_runs.specs.declared.request.Request.{Request}
 use Rattle.fsd_runs.specs.declared.request.Request.TheVariants as Asks
 use Rattle.fsd_runs.specs.Commands.{changes_of, reply_alone, reply_status}
-use Rattle.fsd_runs.specs.Errands.{Cut, Errand, MayCut, Turn, blank, errand_alone, nothing_but}
-use Rattle.fsd_runs.specs.Runs.{answered, changes_in, errand_in, said_in, turns_of}
+use Rattle.fsd_runs.specs.Dumps.{dump_of}
+use Rattle.fsd_runs.specs.Errands.{Answered, ByFault, ByRefusal, BySector, Cut, Damages, Errand, MayCut, Turn, blank, damage_turn, errand_alone, nothing_but, said_turn}
+use Rattle.fsd_runs.specs.Runs.{answered, changes_in, errand_in, said_in, turns_of, turns_with}
 use Rattle.fsd_runs.specs.Sessions.{Meeting, session_over}
 use Rattle.cfs_program.specs.Drill.{list_text}
 use Rattle.cfs_program.specs.Program.{input_for}
@@ -44,13 +48,13 @@ module _ (command : Command) (v : Volume) where
 -- ---- a list
 
 module _ (input : List ℕ) (pattern : Pattern) where
-  list_turns : (cut : Cut) → MayCut (Asks.One (Word.List pattern)) cut → (mets : List Meeting) (v : Volume) → length mets ≡ length (errand_in (Asks.One (Word.List pattern)) input cut).commands
-      → (said_in (turns_of (errand_in (Asks.One (Word.List pattern)) input cut) mets (session_over v)) ≡ listing (filter (λ e. fits pattern e.key.name) v.entries))
-      × (changes_in (turns_of (errand_in (Asks.One (Word.List pattern)) input cut) mets (session_over v)) ≡ [])
+  list_turns : (cut : Cut) → MayCut (Asks.One (Word.List pattern)) cut → (mets : List Meeting) (v : Volume) → length mets ≡ length (errand_in (Asks.One (Word.List pattern)) input cut v).commands
+      → (said_in (turns_of (errand_in (Asks.One (Word.List pattern)) input cut v) mets (session_over v)) ≡ listing (filter (λ e. fits pattern e.key.name) v.entries))
+      × (changes_in (turns_of (errand_in (Asks.One (Word.List pattern)) input cut v) mets (session_over v)) ≡ [])
   list_turns None may mets v through =
       let once = answered_once (Word.List pattern) v mets through in
       (ap said_in once.1.turns ∙ append-nil (listing (filter (λ e. fits pattern e.key.name) v.entries)), ap changes_in once.1.turns)
-  list_turns (Some (k, why)) may mets v through = absurd may
+  list_turns (Some x) may mets v through = absurd may
 
 pub pattern_says : (Shown : Image → Type 0) (pattern : Pattern) (input said : List ℕ) (s next : Files) (status : ℕ) → Ends Shown (Asks.One (Word.List pattern)) input s said status next → (pattern ≡ Prefix [] → said ≡ list_text s) × (next ≡ s)
 pattern_says Shown pattern input said s next status x =
@@ -75,8 +79,8 @@ record IsGotten (key : Key) (v : Volume) (turns : List Turn) (status : ℕ) : Ty
   status_is : status ≡ reply_status (got key damaged (find key_cmp key v.files))
   changes : changes_in turns ≡ []
 
-get_turns : (key : Key) (input : List ℕ) (cut : Cut) → MayCut (Asks.One (Word.Get key)) cut → (mets : List Meeting) (v : Volume) → length mets ≡ length (errand_in (Asks.One (Word.Get key)) input cut).commands
-    → IsGotten key v (turns_of (errand_in (Asks.One (Word.Get key)) input cut) mets (session_over v)) ((errand_in (Asks.One (Word.Get key)) input cut).ends (answered mets (session_over v) (errand_in (Asks.One (Word.Get key)) input cut).commands)).status
+get_turns : (key : Key) (input : List ℕ) (cut : Cut) → MayCut (Asks.One (Word.Get key)) cut → (mets : List Meeting) (v : Volume) → length mets ≡ length (errand_in (Asks.One (Word.Get key)) input cut v).commands
+    → IsGotten key v (turns_of (errand_in (Asks.One (Word.Get key)) input cut v) mets (session_over v)) ((errand_in (Asks.One (Word.Get key)) input cut v).ends (answered mets (session_over v) (errand_in (Asks.One (Word.Get key)) input cut v).commands)).status
 get_turns key input None may mets v through =
     let once = answered_once (Word.Get key) v mets through in
     record {
@@ -85,7 +89,7 @@ get_turns key input None may mets v through =
       status_is = once.1.status;
       changes = ap changes_in once.1.turns;
     }
-get_turns key input (Some (k, why)) may mets v through = absurd may
+get_turns key input (Some x) may mets v through = absurd may
 
 pub get_says : (Shown : Image → Type 0) (key : Key) (input said : List ℕ) (s next : Files) (status : ℕ) → Ends Shown (Asks.One (Word.Get key)) input s said status next → SaysVersion key (find key_cmp key s) said status × (next ≡ s)
 get_says Shown key input said s next status x =
@@ -141,20 +145,20 @@ module _ (name : List ℕ) (keep : Option ℕ) (input : List ℕ) where
       ∙ append-nil (changes_of the_put (reply_to the_put v met))
       ∙ changes_zero (reply_to the_put v met) (put_reply met.met name input keep v) (sym once.1.status ∙ sym one)
 
-  put_refuses : (cut : Cut) → MayCut (Asks.Put name keep) cut → (mets : List Meeting) (v : Volume) → length mets ≡ length (errand_in (Asks.Put name keep) input cut).commands
-      → 1 ≡ ((errand_in (Asks.Put name keep) input cut).ends (answered mets (session_over v) (errand_in (Asks.Put name keep) input cut).commands)).status
-      → changes_in (turns_of (errand_in (Asks.Put name keep) input cut) mets (session_over v)) ≡ []
+  put_refuses : (cut : Cut) → MayCut (Asks.Put name keep) cut → (mets : List Meeting) (v : Volume) → length mets ≡ length (errand_in (Asks.Put name keep) input cut v).commands
+      → 1 ≡ ((errand_in (Asks.Put name keep) input cut v).ends (answered mets (session_over v) (errand_in (Asks.Put name keep) input cut v).commands)).status
+      → changes_in (turns_of (errand_in (Asks.Put name keep) input cut v) mets (session_over v)) ≡ []
   put_refuses None may mets v through one = put_didnt (nat_lt max_input (length input)) mets v through one
-  put_refuses (Some (k, why)) may mets v through one = absurd may
+  put_refuses (Some x) may mets v through one = absurd may
 
   pub put_refused : (Shown : Image → Type 0) (said : List ℕ) (s next : Files) (status : ℕ) → Ends Shown (Asks.Put name keep) input s said status next → status ≡ 1 → next ≡ s
   put_refused Shown said s next status x one = let p = x.plays in x.files ∙ ap (fold step s) (put_refuses p.cut p.may p.mets p.volume x.through (sym one ∙ x.ends))
 
-  put_ends : (cut : Cut) → MayCut (Asks.Put name keep) cut → (mets : List Meeting) (v : Volume) → length mets ≡ length (errand_in (Asks.Put name keep) input cut).commands
-      → 0 ≡ ((errand_in (Asks.Put name keep) input cut).ends (answered mets (session_over v) (errand_in (Asks.Put name keep) input cut).commands)).status
-      → changes_in (turns_of (errand_in (Asks.Put name keep) input cut) mets (session_over v)) ≡ the_change ∷ []
+  put_ends : (cut : Cut) → MayCut (Asks.Put name keep) cut → (mets : List Meeting) (v : Volume) → length mets ≡ length (errand_in (Asks.Put name keep) input cut v).commands
+      → 0 ≡ ((errand_in (Asks.Put name keep) input cut v).ends (answered mets (session_over v) (errand_in (Asks.Put name keep) input cut v).commands)).status
+      → changes_in (turns_of (errand_in (Asks.Put name keep) input cut v) mets (session_over v)) ≡ the_change ∷ []
   put_ends None may mets v through nought = put_did (nat_lt max_input (length input)) mets v through nought
-  put_ends (Some (k, why)) may mets v through nought = absurd may
+  put_ends (Some x) may mets v through nought = absurd may
 
   pub put_found : (Shown : Image → Type 0) (said : List ℕ) (s next : Files) → Ends Shown (Asks.Put name keep) input s said 0 next → next ≡ step s the_change
   put_found Shown said s next x = let p = x.plays in x.files ∙ ap (fold step s) (put_ends p.cut p.may p.mets p.volume x.through x.ends)
@@ -182,10 +186,10 @@ module _ (name : List ℕ) (keep : Option ℕ) (input : List ℕ) where
           either (inl none) = inl (first_turn turns (turn_for the_put v met) whole is ∙ none)
           either (inr one) = inr (first_turn turns (turn_for the_put v met) whole is ∙ one)
 
-  put_begun : (Shown : Image → Type 0) (i : Image) (cut : Cut) → MayCut (Asks.Put name keep) cut → (mets : List Meeting) (v : Volume) → Meets Shown i (session_over v) mets (errand_in (Asks.Put name keep) input cut).commands
-      → (whole : ℕ) → NoneOrOne (changes_in (take (suc whole) (turns_of (errand_in (Asks.Put name keep) input cut) mets (session_over v))))
+  put_begun : (Shown : Image → Type 0) (i : Image) (cut : Cut) → MayCut (Asks.Put name keep) cut → (mets : List Meeting) (v : Volume) → Meets Shown i (session_over v) mets (errand_in (Asks.Put name keep) input cut v).commands
+      → (whole : ℕ) → NoneOrOne (changes_in (take (suc whole) (turns_of (errand_in (Asks.Put name keep) input cut v) mets (session_over v))))
   put_begun Shown i None may mets v meets whole = put_may Shown i (nat_lt max_input (length input)) mets v meets whole
-  put_begun Shown i (Some (k, why)) may mets v meets whole = absurd may
+  put_begun Shown i (Some x) may mets v meets whole = absurd may
 
   taken : (found : ℕ) (cs : List Change) → NoneOrOne cs → NoneOrOne (take found cs)
   taken zero cs is = inl refl
@@ -235,11 +239,63 @@ module _ {D : Type 0} (M : Ghosts D) (name : List ℕ) (keep : Option ℕ) where
       by (inl none) = inl (subst (λ (s : Files). Says y s) none says)
       by (inr one) = inr (subst (λ (s : Files). Says y s) one says)
 
--- ---- histories of puts, gets and lists
+-- ---- a dump
+
+-- none of these turns changes something
+abbrev ChangeNone : List Turn → Type 0
+ChangeNone turns = AllByRecursion (λ t. t.changes ≡ []) turns
+
+none_changed : (turns : List Turn) → ChangeNone turns → changes_in turns ≡ []
+none_changed [] each = refl
+none_changed (t ∷ turns) each = ap (λ (cs : List Change). cs ++ changes_in turns) each.0 ∙ none_changed turns each.1
+
+each_changes_none : {X : Type 0} (f : X → Turn) → ((x : X) → (f x).changes ≡ []) → (xs : List X) → ChangeNone (map f xs)
+each_changes_none f none [] = tt
+each_changes_none f none (x ∷ xs) = (none x, each_changes_none f none xs)
+
+answered_none : (mets : List Meeting) (s : Session) → answered mets s [] ≡ []
+answered_none [] s = refl
+answered_none (x ∷ mets) s = refl
+
+module _ (since : Serial) (v : Volume) where
+  abbrev dump_in : Cut → Errand
+  dump_in cut = errand_in (Asks.Dump since) [] cut v
+
+  none_answered : (cut : Cut) → MayCut (Asks.Dump since) cut → (mets : List Meeting) → answered mets (session_over v) (dump_in cut).commands ≡ []
+  none_answered None may mets = answered_none mets (session_over v)
+  none_answered (Some (Damages found)) may mets = answered_none mets (session_over v)
+  none_answered (Some (BySector k t)) may mets = answered_none mets (session_over v)
+  none_answered (Some (ByFault k why)) may mets = absurd may
+  none_answered (Some (ByRefusal k)) may mets = absurd may
+
+  dumps_none : (cut : Cut) → MayCut (Asks.Dump since) cut → ChangeNone (turns_with (dump_in cut) [])
+  dumps_none None may = each_changes_none said_turn (λ x. refl) (dump_of since v)
+  dumps_none (Some (Damages found)) may = each_changes_none damage_turn (λ x. refl) found
+  dumps_none (Some (BySector k t)) may = each_taken (λ t. t.changes ≡ []) (suc k) (map said_turn (dump_of since v)) (each_changes_none said_turn (λ x. refl) (dump_of since v))
+  dumps_none (Some (ByFault k why)) may = absurd may
+  dumps_none (Some (ByRefusal k)) may = absurd may
+
+  dump_changes_none : (cut : Cut) → MayCut (Asks.Dump since) cut → (mets : List Meeting) → ChangeNone (turns_of (dump_in cut) mets (session_over v))
+  dump_changes_none cut may mets = subst (λ (done : List Answered). ChangeNone (turns_with (dump_in cut) done)) (sym (none_answered cut may mets)) (dumps_none cut may)
+
+dump_ends : (Shown : Image → Type 0) (since : Serial) (said : List ℕ) (s next : Files) (status : ℕ) → Ends Shown (Asks.Dump since) [] s said status next → next ≡ s
+dump_ends Shown since said s next status x =
+    let p = x.plays in
+    x.files ∙ ap (fold step s) (none_changed (turns_in p) (dump_changes_none since p.volume p.cut p.may p.mets))
+
+dump_stops : (Shown : Image → Type 0) (since : Serial) (said : List ℕ) (s next : Files) → Stops Shown (Asks.Dump since) [] s said next → next ≡ s
+dump_stops Shown since said s next (inl (fault, is)) = is
+dump_stops Shown since said s next (inr x) =
+    let p = x.plays in
+    let begun = take (suc x.whole) (turns_in p) in
+    let none = none_changed begun (each_taken (λ t. t.changes ≡ []) (suc x.whole) (turns_in p) (dump_changes_none since p.volume p.cut p.may p.mets)) in
+    x.files ∙ ap (λ (cs : List Change). fold step s (take x.found cs)) none ∙ ap (fold step s) (take-nil x.found)
+
+-- ---- histories of puts, gets, lists and dumps
 
 module _ (command : Command) (still : (reply : Reply) → changes_of command reply ≡ []) (input : List ℕ) where
-  still_begun : (Shown : Image → Type 0) (i : Image) (cut : Cut) → MayCut (Asks.One command) cut → (mets : List Meeting) (v : Volume) → Meets Shown i (session_over v) mets (errand_in (Asks.One command) input cut).commands
-      → (whole : ℕ) → changes_in (take (suc whole) (turns_of (errand_in (Asks.One command) input cut) mets (session_over v))) ≡ []
+  still_begun : (Shown : Image → Type 0) (i : Image) (cut : Cut) → MayCut (Asks.One command) cut → (mets : List Meeting) (v : Volume) → Meets Shown i (session_over v) mets (errand_in (Asks.One command) input cut v).commands
+      → (whole : ℕ) → changes_in (take (suc whole) (turns_of (errand_in (Asks.One command) input cut v) mets (session_over v))) ≡ []
   still_begun Shown i None may mets v meets whole = by (turns_are command v Shown i mets meets)
     where
       turns : List Turn
@@ -251,28 +307,26 @@ module _ (command : Command) (still : (reply : Reply) → changes_of command rep
       by : (turns ≡ blank ∷ []) ⊎ ((met : Meeting) × (turns ≡ turn_for command v met ∷ [])) → changes_in (take (suc whole) turns) ≡ []
       by (inl is) = one_taken blank is refl
       by (inr (met, is)) = one_taken (turn_for command v met) is (still (reply_to command v met))
-  still_begun Shown i (Some (k, why)) may mets v meets whole = absurd may
+  still_begun Shown i (Some x) may mets v meets whole = absurd may
 
   still_stops : (Shown : Image → Type 0) (said : List ℕ) (s next : Files) → Stops Shown (Asks.One command) input s said next → next ≡ s
   still_stops Shown said s next (inl (fault, is)) = is
   still_stops Shown said s next (inr x) =
-      x.files ∙ ap (λ (cs : List Change). fold step s (take x.found cs)) (still_begun Shown x.plays.image x.plays.cut x.plays.may x.plays.mets x.plays.volume x.plays.meets x.whole) ∙ ap (fold step s) (taken_none x.found)
-    where
-      taken_none : (n : ℕ) → ◌≡◌ {A = List Change} (take n []) []
-      taken_none zero = refl
-      taken_none (suc n) = refl
+      x.files ∙ ap (λ (cs : List Change). fold step s (take x.found cs)) (still_begun Shown x.plays.image x.plays.cut x.plays.may x.plays.mets x.plays.volume x.plays.meets x.whole) ∙ ap (fold step s) (take-nil x.found)
 
 ends_plainly : (Shown : Image → Type 0) (request : Request) (input said : List ℕ) (s next : Files) (status : ℕ) → Ends Shown request (input_for request input) s said status next → EndsPlainly request input s said status next
 ends_plainly Shown (Asks.Put name keep) input said s next status x =
     (λ nought. put_found name keep input Shown said s next (subst (λ (n : ℕ). Ends Shown (Asks.Put name keep) input s said n next) nought x), put_refused name keep input Shown said s next status x)
 ends_plainly Shown (Asks.One (Word.Get key)) input said s next status x = get_says Shown key [] said s next status x
 ends_plainly Shown (Asks.One (Word.List pattern)) input said s next status x = pattern_says Shown pattern [] said s next status x
+ends_plainly Shown (Asks.Dump since) input said s next status x = dump_ends Shown since said s next status x
 ends_plainly Shown request input said s next status x = tt
 
 stops_plainly : (Shown : Image → Type 0) (request : Request) (input said : List ℕ) (s next : Files) → Stops Shown request (input_for request input) s said next → StopsPlainly request input s next
 stops_plainly Shown (Asks.Put name keep) input said s next x = put_stops name keep input Shown said s next x
 stops_plainly Shown (Asks.One (Word.Get key)) input said s next x = still_stops (Word.Get key) (λ reply. refl) [] Shown said s next x
 stops_plainly Shown (Asks.One (Word.List pattern)) input said s next x = still_stops (Word.List pattern) (λ reply. refl) [] Shown said s next x
+stops_plainly Shown (Asks.Dump since) input said s next x = dump_stops Shown since said s next x
 stops_plainly Shown request input said s next x = tt
 
 module _ {D : Type 0} (M : Ghosts D) where

@@ -24,7 +24,7 @@ pub fn runs_tell_files<M: Machine>()
         AreLives M.Machine (IsLeft M.Machine left) lives → Tells M.Machine [] lives }
 {}
 
-/// So of puts, gets and lists, whatever other runs are between, in fewer words.
+/// So of puts, gets and lists, and of dumps, which leave the files, whatever other runs are between, in fewer words.
 pub fn puts_gets_and_lists_tell_files<M: Machine>()
     ensures { (s : Files) (lives : List (Life M)) → Tells M.Machine s lives → TellsPlainly M.Machine s lives }
 {}

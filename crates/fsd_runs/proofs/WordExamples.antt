@@ -6,7 +6,7 @@ use Rattle.fsd_bytes.specs.Keys.{key_of}
 use Rattle.fsd_bytes.specs.declared.pattern.Pattern.TheVariants.{Prefix}
 use Rattle.fsd_texts.specs.declared.bad_line.Cause.TheVariants.{BadNumber, BadName, BadKey}
 use Rattle.fsd_texts.specs.declared.command.Command.TheVariants as Word
-use Rattle.fsd_runs.specs.declared.request.Request.TheVariants.{NoCommand, BadField, Format, Put, One, Script, Generate, Drill}
+use Rattle.fsd_runs.specs.declared.request.Request.TheVariants.{NoCommand, BadField, Format, Put, One, Script, Generate, Dump, Restore, Drill}
 use Rattle.fsd_runs.specs.Words.{request_of, path_of}
 
 formats : request_of (codes "cfs" ∷ codes "format" ∷ codes "v" ∷ codes "2048" ∷ codes "256" ∷ codes "64" ∷ []) ≡ Format 2048 256 64 Two
@@ -194,6 +194,28 @@ an_upgrade = refl
 upgrades_to_2_alone : request_of (codes "cfs" ∷ codes "upgrade" ∷ codes "v" ∷ codes "--layout" ∷ codes "2" ∷ []) ≡ NoCommand
 unfolding clap_on_literals
 upgrades_to_2_alone = refl
+
+dumps : request_of (codes "cfs" ∷ codes "dump" ∷ codes "v" ∷ codes "2" ∷ codes "1" ∷ []) ≡ Dump (record { epoch = 2; count = 1 })
+unfolding clap_on_literals
+dumps = refl
+
+-- both numbers have to be there
+dumps_of_one_number : request_of (codes "cfs" ∷ codes "dump" ∷ codes "v" ∷ codes "2" ∷ []) ≡ NoCommand
+unfolding clap_on_literals
+dumps_of_one_number = refl
+
+dumps_past_the_numbers : request_of (codes "cfs" ∷ codes "dump" ∷ codes "v" ∷ codes "0" ∷ codes "4294967296" ∷ []) ≡ BadField BadNumber
+unfolding clap_on_literals
+dumps_past_the_numbers = refl
+
+restores : request_of (codes "cfs" ∷ codes "restore" ∷ codes "v" ∷ []) ≡ Restore
+unfolding clap_on_literals
+restores = refl
+
+-- the dump is the input, and no word of the line
+restores_of_two : request_of (codes "cfs" ∷ codes "restore" ∷ codes "v" ∷ codes "w" ∷ []) ≡ NoCommand
+unfolding clap_on_literals
+restores_of_two = refl
 
 -- a drill names no image
 drills : request_of (codes "cfs" ∷ codes "drill" ∷ []) ≡ Drill

@@ -13,7 +13,7 @@ use Rattle.fsd_texts.specs.declared.bad_line.Cause.TheVariants.{BadNumber}
 use Rattle.fsd_texts.specs.declared.command.Command.TheVariants as Word
 use Rattle.fsd_texts.specs.Script.{◌>>=◌, number_in, name_in, key_in, pattern_in}
 use Rattle.fsd_runs.specs.declared.request.Request.{Request}
-use Rattle.fsd_runs.specs.declared.request.Request.TheVariants.{NoCommand, BadField, Format, Put, One, Script, Generate, Drill}
+use Rattle.fsd_runs.specs.declared.request.Request.TheVariants.{NoCommand, BadField, Format, Put, One, Script, Generate, Dump, Restore, Drill}
 
 -- ---- the command set
 
@@ -45,6 +45,8 @@ cfs = record {
       ∷ subcommand (codes "stat") (image ∷ [])
       ∷ subcommand (codes "scrub") (image ∷ [])
       ∷ subcommand (codes "upgrade") (image ∷ [])
+      ∷ subcommand (codes "dump") (image ∷ positional (codes "e") ∷ positional (codes "c") ∷ [])
+      ∷ subcommand (codes "restore") (image ∷ [])
       ∷ subcommand (codes "script") (image ∷ [])
       ∷ subcommand (codes "generate") (image ∷ positional (codes "seed") ∷ positional (codes "count") ∷ [])
       ∷ subcommand (codes "drill") []
@@ -101,6 +103,12 @@ reads_move rows = do
   name ← name_in (field (codes "name") rows)
   Ok (One (Word.Move key name))
 
+abbrev pub reads_dump : List Row → Result Request Cause
+reads_dump rows = do
+  e ← number_in (field (codes "e") rows)
+  c ← number_in (field (codes "c") rows)
+  Ok (Dump (record { epoch = e; count = c }))
+
 abbrev pub reads_generate : List Row → Result Request Cause
 reads_generate rows = do
   seed ← seed_in (field (codes "seed") rows)
@@ -120,10 +128,12 @@ reads_fields name rows =
     else (if same_bytes name (codes "stat") then Ok (One Word.Stat)
     else (if same_bytes name (codes "scrub") then Ok (One Word.Scrub)
     else (if same_bytes name (codes "upgrade") then Ok (One Word.Upgrade)
+    else (if same_bytes name (codes "dump") then reads_dump rows
+    else (if same_bytes name (codes "restore") then Ok Restore
     else (if same_bytes name (codes "script") then Ok Script
     else (if same_bytes name (codes "generate") then reads_generate rows
     else (if same_bytes name (codes "drill") then Ok Drill
-    else Ok NoCommand))))))))))))
+    else Ok NoCommand))))))))))))))
 
 -- ---- the words
 

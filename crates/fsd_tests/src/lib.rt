@@ -7,6 +7,8 @@ mod commands;
 #[cfg(test)]
 mod drills;
 #[cfg(test)]
+mod dumps;
+#[cfg(test)]
 mod example;
 #[cfg(test)]
 mod faults;

@@ -28,9 +28,6 @@ pub enum Line {
     /// So many versions of a dump were made again.
     Restored(u32),
     /// A data sector of a version is damaged.
-    Damaged {
-        key: Key,
-        sector: u32,
-    },
+    Damaged { key: Key, sector: u32 },
     Ended(Fault),
 }

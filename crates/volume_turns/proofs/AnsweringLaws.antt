@@ -175,7 +175,7 @@ module _ (s : State) (up : s.down ≡ None) (bytes : List ℕ) (i : Image) (why 
       let P : Reply → Type 0 = λ a. MayReply (Word.Load key keep bytes) i a in
       let lacks : (x : Refusal) → size ≡ None → LacksRoom (length bytes) x → P (Said.Refused x) = λ x none lack. inr (none, inr lack) in
       making_refused s up size (length bytes) P why lacks (Asks Why.Exists ∷ table_rest s) (λ is. inl is)
-          (λ none. (λ x. asked P why Why.Exists (inr (none, inl refl)) x, table_room s up size (length bytes) P why lacks none)) comes
+      (λ none. (λ x. asked P why Why.Exists (inr (none, inl refl)) x, table_room s up size (length bytes) P why lacks none)) comes
 
 -- ---- a version taken out, a keep, and what is read
 

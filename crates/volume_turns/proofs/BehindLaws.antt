@@ -7,7 +7,6 @@ use Rattle.sector_disk.specs.Calls.{HealsDisk, IsHeld, IsTimed, LeavesDisk, Sinc
 use Rattle.sector_disk.specs.Image.{AreShort}
 use Rattle.sector_disk.specs.Machine.{LeavesOnly, Trusts, Utters}
 use Rattle.sector_disk.proofs.Holding.{trusts_on}
-use Rattle.fsd_files.specs.Desk.{Session}
 use Rattle.fsd_log.specs.Scan.{Placed}
 use Rattle.fsd_files.specs.Volume.{Volume}
 use Rattle.fsd_runs.specs.Sessions.{session_over}

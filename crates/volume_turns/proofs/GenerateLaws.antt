@@ -19,7 +19,7 @@ use Rattle.fsd_texts.specs.declared.line.Line.{Line}
 use Rattle.fsd_texts.specs.declared.line.Line.TheVariants as Says
 use Rattle.fsd_texts.specs.Generator.{made_up}
 use Rattle.fsd_runs.specs.declared.request.Request.TheVariants.{Generate}
-use Rattle.fsd_runs.specs.Errands.{Answered, blank, ByFault, cut_ending, Ending, errand_of, forced_turn, generated_line, group_ending, line_turn, Turn}
+use Rattle.fsd_runs.specs.Errands.{Answered, ByFault, Ending, Turn, blank, cut_ending, errand_of, forced_turn, generated_line, group_ending, line_turn}
 use Rattle.fsd_runs.specs.Sessions.{Meeting, session_over}
 use Rattle.fsd_runs.specs.Runs.{Goes, IsWornOut, WearsOut, answered, session_behind, turns_begun, turns_of}
 use Rattle.volume_contract.specs.State.{Known, forced_of, volume_of}

@@ -12,7 +12,6 @@ use Rattle.sector_disk.proofs.Lags.{shows_of, stops_by}
 use Rattle.sector_disk.proofs.Moments.{leaves_more, then_on}
 use Rattle.volume_layout.specs.declared.layout.Layout.{Layout}
 use Rattle.fsd_files.specs.Disk.{in_runs}
-use Rattle.fsd_files.specs.Desk.{Session}
 use Rattle.fsd_sound.specs.Sound.{EndIn, weak_of}
 use Rattle.fsd_texts.specs.declared.command.Command.{Command}
 use Rattle.fsd_texts.specs.declared.fault.Fault.{Fault}

@@ -4,7 +4,6 @@ use Rattle.std.specs.Prelude.{◌==◌, if◌then◌else◌, IsSome, slice_get}
 use Rattle.sector_disk.specs.declared.machine.Machine.{Ghosts}
 use Rattle.sector_disk.specs.Machine.{Report, Rose}
 use Rattle.fsd_files.specs.declared.reply.Reply.{Reply}
-use Rattle.fsd_files.specs.Desk.{Session}
 use Rattle.fsd_files.specs.Volume.{Volume}
 use Rattle.fsd_runs.specs.Sessions.{session_over}
 use Rattle.fsd_texts.specs.declared.script_command.ScriptCommand.{ScriptCommand}
@@ -15,7 +14,7 @@ use Rattle.fsd_texts.specs.declared.end.End.TheVariants.{Done, Bad, TooLong}
 use Rattle.fsd_texts.specs.Script.{script_in, script_of}
 use Rattle.fsd_runs.specs.Commands.{reply_text}
 use Rattle.fsd_runs.specs.declared.request.Request.TheVariants.{Script}
-use Rattle.fsd_runs.specs.Errands.{Answered, blank, ByFault, cut_ending, Ending, Errand, errand_of, group_ending, is_forced, line_turn, script_ending, scripted, Turn}
+use Rattle.fsd_runs.specs.Errands.{Answered, ByFault, Ending, Errand, Turn, blank, cut_ending, errand_of, group_ending, is_forced, line_turn, script_ending, scripted}
 use Rattle.fsd_runs.specs.Runs.{IsWornOut, WearsOut, turns_of}
 use Rattle.volume_contract.specs.State.{Known}
 use Rattle.volume_turns.specs.Group.{WornIf}

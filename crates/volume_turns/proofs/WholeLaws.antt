@@ -13,7 +13,6 @@ use Rattle.sector_disk.specs.Machine.{LeavesOnly, Moment, Report, Rose, UsesDisk
 use Rattle.sector_disk.proofs.Lags.{held_by, shows_of, stops_by}
 use Rattle.sector_disk.proofs.Moments.{leaves_more, started, then_on}
 use Rattle.fsd_files.specs.Disk.{Image, in_runs}
-use Rattle.fsd_files.specs.Desk.{Session}
 use Rattle.fsd_files.specs.Files.{Change}
 use Rattle.fsd_files.specs.Volume.{Volume}
 use Rattle.fsd_sound.specs.Laid.{HasOwnRoots}
@@ -32,11 +31,11 @@ use Rattle.fsd_texts.specs.declared.fault.Fault.TheVariants as Ends
 use Rattle.fsd_texts.specs.Text.{fault_text}
 use Rattle.fsd_runs.specs.declared.request.Request.{Request}
 use Rattle.fsd_runs.specs.declared.request.Request.TheVariants.{One, Put, Restore}
-use Rattle.fsd_runs.specs.Errands.{blank, ByFault, Cut, errand_of, fault_status, Turn}
+use Rattle.fsd_runs.specs.Errands.{ByFault, Cut, Turn, blank, errand_of, fault_status}
 use Rattle.fsd_runs.specs.Leaves.{CutCause, IfOne, IsBrokenOff, IsOutside, IsReplied, IsSpent, IsUnderWay, IsUndone, IsUnsaid, LeavesBy, LeavesRoots, Left, LeftBefore, LeftByTurns, SaysFault, Unbegun, Whatever}
 use Rattle.fsd_runs.proofs.LeaveLaws.{one_more}
 use Rattle.fsd_runs.specs.Sessions.{session_over}
-use Rattle.fsd_runs.specs.Runs.{answered, changes_in, Course, errand_in, Goes, GoesSo, IsCutAt, IsThrough, run_end, run_status, run_turns, said_in, turns_of}
+use Rattle.fsd_runs.specs.Runs.{Goes, IsCutAt, IsThrough, Course, GoesSo, answered, changes_in, errand_in, run_end, run_status, run_turns, said_in, turns_of}
 use Rattle.volume_contract.specs.Mount.{EndsBefore, EndsSettled, Excuses, ExcusesOf, MountsAs, SettledDisk, SoundAbout, SoundBefore, SoundSince}
 use Rattle.volume_contract.specs.State.{State, Known, Stands, forced_of, none_open, volume_of}
 use Rattle.volume_turns.specs.declared.turns.Halt.TheVariants.{Fault as Stopped}

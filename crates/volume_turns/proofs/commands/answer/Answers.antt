@@ -13,7 +13,7 @@ pub returns-in-Move : goal.returns-in-Move
 returns-in-Move g c = rw c.in-Move.is c.move_version.ensures
 
 pub returns-in-Load : goal.returns-in-Load
-returns-in-Load g c = rw c.in-Load.is c.load.ensures
+returns-in-Load g c = rw (c.in-Load.is, ← c.as_key.ensures.same, ← c.as_slice-in-Load.ensures) c.load.ensures
 
 pub returns-in-Get : goal.returns-in-Get
 returns-in-Get g c = rw c.in-Get.is c.get.ensures

@@ -1,4 +1,4 @@
-use Rattle.std.proofs.Common.{ℕ, true, [], ◌∷◌, ap, sym, subst, refl, length}
+use Rattle.std.proofs.Common.{true, [], ◌∷◌, ap, sym, subst, refl, length}
 use Rattle.std.specs.Prelude.{◌||◌, Err, IsFalse}
 use Rattle.fsd_bytes.specs.declared.key.Key.{Key}
 use Rattle.fsd_bytes.specs.declared.refusal.Refusal.{Refusal}
