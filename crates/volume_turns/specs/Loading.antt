@@ -20,7 +20,7 @@ use Rattle.volume_turns.specs.Turns.{OnDisk, RunsFrom, StepsOk}
 
 -- the versions that are meant, of these bytes, as commands
 abbrev pub loads_of : List ℕ → List Item → List ScriptCommand
-loads_of bytes items = map (λ x. load_of (dumped bytes x)) items
+loads_of bytes items = map load_of (map (dumped bytes) items)
 
 -- ---- what is refused
 

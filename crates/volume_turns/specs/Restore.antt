@@ -63,14 +63,18 @@ EndsErrand M e k mets a b (Ok status) = SaysOut M e k mets a b status
 EndsErrand M e k mets a b (Err (Stopped why)) = EndsAtOnce why × Halted M k why (turns_of e mets (session_over (volume_of k))) a b
 EndsErrand M e k mets a b (Err Output) = ⊤
 
--- It is done up to its end, which is said, or up to the fault that has ended it, which is not.
+-- An errand is done up to its end, which is said, or up to the fault that has ended it, which is not.
+pub record IsEnded {D : Type 0} (M : Ghosts D) (e : Errand) (k : Known) (a b : D) (result : Result ℕ Halt) : Type 0 where
+  pub mets : List Meeting
+  pub goes : (t : ℕ) → t ≤ M.moment a → Goes (in_runs k.windows) (M.left_since b t) Anything e (M.now a).said (M.now a).image (session_over (volume_of k)) mets e.commands
+  pub moments : StopsOnly M a b (InRun k (forced_of k) (turns_of e mets (session_over (volume_of k))) (M.now a))
+  pub ends : EndsErrand M e k mets a b result
+
+-- So it is of a restore, which goes on as long as nothing is refused.
 pub record IsRestored {D : Type 0} (M : Ghosts D) (e : Errand) (k : Known) (a b : D) (result : Result ℕ Halt) : Type 0 where
   pub refused : Option ℕ
-  pub mets : List Meeting
-  pub goes : (t : ℕ) → t ≤ M.moment a → Goes (in_runs k.windows) (M.left_since b t) Anything (cut_off (cut_at refused) e) (M.now a).said (M.now a).image (session_over (volume_of k)) mets (cut_off (cut_at refused) e).commands
-  pub moments : StopsOnly M a b (InRun k (forced_of k) (turns_of (cut_off (cut_at refused) e) mets (session_over (volume_of k))) (M.now a))
-  pub ends : EndsErrand M (cut_off (cut_at refused) e) k mets a b result
-  pub so : IsRestoredSo (cut_at refused) (answered mets (session_over (volume_of k)) (cut_off (cut_at refused) e).commands)
+  pub ended : IsEnded M (cut_off (cut_at refused) e) k a b result
+  pub so : IsRestoredSo (cut_at refused) (answered ended.mets (session_over (volume_of k)) (cut_off (cut_at refused) e).commands)
 
 -- ---- what such calls keep
 

@@ -45,7 +45,7 @@ returns-in-Err g c =
         speaks = speaks_ended end e.speaks;
         image = λ h. told_end (V.state c.args.v).layout (M.now b).image end (λ why same. (e.closing h).told why (ap (λ (x : Halt). Err x) same));
         unworn = λ is h. (e.closing h).unworn (ap (λ (x : Halt). Err x) (err_is _ end (Stopped Ends.WornOut) refl is));
-        quiet = λ h. keeps_by c.as_slice.result.now (M.now a) (M.now b) (Err end) (e.closing h).says;
+        quiet = λ h. keeps_by {T = Unit {0}} c.as_slice.result.now (M.now a) (M.now b) (Err end) (e.closing h).says;
       };
       gives_it = tt;
       closes = subst (λ (x : List ℕ). M.honest b → (k : Known) (f : ℕ) → Stands V.state V.holds c.args.v k (M.now a) → OnDisk M k f a → ClosesAndSays M k f x a b (Err end)) is e.closes;
