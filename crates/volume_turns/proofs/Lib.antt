@@ -1,5 +1,6 @@
 pub mod AnsweringLaws
 pub mod ApartLaws
+pub mod BeforeLaws
 pub mod BehindLaws
 pub mod CallEndLaws
 pub mod CallKeepLaws
@@ -21,6 +22,7 @@ pub mod InputLaws
 pub mod LastLaws
 pub mod LineLaws
 pub mod LoadingLaws
+pub mod LookedLaws
 pub mod LookingLaws
 pub mod ListLaws
 pub mod MountLaws

@@ -25,7 +25,7 @@ use Rattle.fsd_runs.specs.Sessions.{Meeting, session_over}
 use Rattle.client_desk.specs.Clients.{no_desk}
 use Rattle.client_desk.specs.declared.client.Client.{Client}
 use Rattle.scrub.specs.Telling.{AreOfPage}
-use Rattle.volume_contract.specs.State.{Known, State, forced_of, volume_of}
+use Rattle.volume_contract.specs.State.{IsNew, Known, State, forced_of, is_worn, volume_of}
 use Rattle.volume_turns.specs.declared.turns.Halt.{Halt}
 use Rattle.volume_turns.specs.declared.turns.Halt.TheVariants.{Fault as Stopped, Output}
 use Rattle.volume_turns.specs.Generate.{silent}
@@ -40,6 +40,7 @@ use Rattle.volume_turns.specs.Whole.{Halted}
 use Rattle.volume_turns.proofs.GroupEndLaws.{ended_as, goes_length}
 use Rattle.volume_turns.proofs.GroupLaws.{closing_done, closing_moments, closing_unsaid, goes_wider}
 use Rattle.volume_turns.proofs.HaltLaws.{said_halts}
+use Rattle.volume_turns.proofs.NumberLaws.{new_may, worn_may}
 
 -- ---- the line that is said once all is forced
 
@@ -226,3 +227,13 @@ module _ {S D : Type 0} (state : S → State) (has : S → Mounted → List Plac
 pub low_of : (gives : ℕ) → gives ≤ 1 → (r : Result ℕ Halt) → IfOk r (λ status. status ≡ gives) → IfOk r (λ status. status ≤ 1)
 low_of gives low (Ok status) is = omega (arith, low, is)
 low_of gives low (Err end) is = tt
+
+-- ---- a mount that was just made
+
+-- has numbers left
+pub new_unworn : (s : State) → IsNew s → is_worn s ≡ false
+new_unworn s new = by (is_worn s) refl
+  where
+    by : (b : Bool) → is_worn s ≡ b → b ≡ false
+    by false is = refl
+    by true is = absurd (let many = new_may 1 s new (worn_may s is) in omega (arith, many))
