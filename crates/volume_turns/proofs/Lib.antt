@@ -11,6 +11,7 @@ pub mod CallWornLaws
 pub mod CauseLaws
 pub mod CountLaws
 pub mod DidLaws
+pub mod DumpedLaws
 pub mod EachLaws
 pub mod GenerateLaws
 pub mod GetLaws
