@@ -1,5 +1,5 @@
 -- How a volume answers where a version was to be loaded into its table.
-use Rattle.std.proofs.Common.{◌≡◌, inl, inr, ℕ, ◌+◌, ◌^◌, ◌-◌, ◌<◌, ◌≤◌, min, Bool, false, List, [], ◌∷◌, length, Option, Some, None, Result, Ok, Err, refl, sym, ap, subst, ◌∙◌, arith}
+use Rattle.std.proofs.Common.{◌≡◌, ℕ, ◌+◌, ◌^◌, ◌-◌, ◌<◌, ◌≤◌, min, Bool, false, List, [], length, Option, Some, None, Result, Err, refl, sym, subst, ◌∙◌, arith}
 use Rattle.std.specs.Prelude.{IsErrAnd, count_by}
 use Rattle.std.proofs.lemmas.Bool.{le-ltb, lt-ltb}
 use Rattle.sector_disk.specs.declared.machine.Machine.{Ghosts as MachineGhosts}
@@ -23,9 +23,9 @@ use Rattle.name_page.specs.Pages.{outer_refusal}
 use Rattle.page_cache.specs.Cache.{CacheValue, IsCache}
 use Rattle.volume_contract.specs.Causes.{ShowsOfPages}
 use Rattle.volume_contract.specs.Found.{ShowsReached}
-use Rattle.volume_contract.specs.Order.{Comes, Follows}
+use Rattle.volume_contract.specs.Order.{Comes}
 use Rattle.volume_contract.specs.State.{Known, Stands, State, volume_of}
-use Rattle.cached_table.specs.Editing.{DirtiesAtMost, EditsOnly, EditsTable, StaysInCache}
+use Rattle.cached_table.specs.Editing.{DirtiesAtMost, EditsOnly, EditsTable}
 use Rattle.cached_table.specs.Entering.{OfTableIn}
 use Rattle.cached_table.specs.Loading.{LoadsNone, LoadsThere, entry_drafted}
 use Rattle.cached_table.specs.Looking.{LooksOnly}

@@ -38,7 +38,7 @@ use Rattle.volume_turns.specs.Once.{ClosesAndSays, unit_of}
 use Rattle.volume_turns.specs.Seats.{DoesIn, IsAnsweredIn, Seated, SitsAt, StaysIn, known_of, seated, session_in}
 use Rattle.volume_turns.specs.Tally.{all_counted, counted, nothing_done}
 use Rattle.volume_turns.specs.Steps.{StaysSoundFor}
-use Rattle.volume_turns.specs.Turns.{KeepsCalls, OnDisk, FaultTold, Unheard, device_end, RunsTurns, RunsFrom, SaysAll, Steps, UttersBehind}
+use Rattle.volume_turns.specs.Turns.{KeepsCalls, OnDisk, FaultTold, Unheard, device_end, RunsTurns, RunsFrom, SaysAll, Steps, StepsOk, UttersBehind}
 use Rattle.volume_turns.proofs.GroupLaws.{group_all, group_all_mets, group_stop, group_worn}
 use Rattle.volume_turns.proofs.RunLaws.{from_both, from_both_mets, reply_is, runs_nil, runs_nil_mets, step_fault, step_ok, step_ok_met, step_unsaid}
 use Rattle.volume_turns.proofs.SeatLaws.{seat_wears}
@@ -116,15 +116,16 @@ module _ {S D : Type 0} (state : S → State) (has : S → Mounted → List Plac
     synced : IsTrue (silent.forces reply) → (M.now m).time ≤ (M.now m).synced
     synced is = cc is
 
-    met_is : (step_ok state has M wears short timed silent never plain (v, no_desk) (w, no_desk) a m m k f from stood_from aged stood fault disk honest still held after reply is stands layout at_m run says synced).met ≡ is.met
-    met_is = step_ok_met state has M wears short timed silent never plain (v, no_desk) (w, no_desk) a m m k f from stood_from aged stood fault disk honest still held after reply is stands layout at_m run says synced
+    pub silent_step : StepsOk state has M silent k f from plain a m (w, no_desk)
+    silent_step = step_ok state has M wears short timed silent never plain (v, no_desk) (w, no_desk) a m m k f from stood_from aged stood fault disk honest still held after reply is stands layout at_m run says synced
+
+    pub silent_reply : (answer_in silent_step.met (session_in k) plain).0 ≡ reply
+    unfolding silent_step
+    silent_reply = ap (λ (x : Meeting). (answer_in x (session_in k) plain).0) (step_ok_met state has M wears short timed silent never plain (v, no_desk) (w, no_desk) a m m k f from stood_from aged stood fault disk honest still held after reply is stands layout at_m run says synced)
+        ∙ reply_is state has M wears short timed silent never plain (v, no_desk) (w, no_desk) a m m k f from stood_from aged stood fault disk honest still held after reply is stands
 
     pub counted_step : (t u : Counts) → u ≡ counted t plain reply → CountedStep state has M k f from command a m w t u
-    counted_step t u counts = record {
-      step = step_ok state has M wears short timed silent never plain (v, no_desk) (w, no_desk) a m m k f from stood_from aged stood fault disk honest still held after reply is stands layout at_m run says synced;
-      counts = counts ∙ ap (λ (r : Reply). counted t plain r) (sym (reply_is state has M wears short timed silent never plain (v, no_desk) (w, no_desk) a m m k f from stood_from aged stood fault disk honest still held after reply is stands))
-          ∙ ap (λ (x : Meeting). counted t plain (answer_in x (session_in k) plain).0) (sym met_is);
-    }
+    counted_step t u counts = record { step = silent_step; counts = counts ∙ ap (λ (r : Reply). counted t plain r) (sym silent_reply) }
 
     -- its bytes have no sum
     pub counted_none : (why : Fault) → why ≡ Ends.Memory → (more : List ScriptCommand) → RunsFrom state has M silent k f from (plain ∷ more) a m (w, no_desk) (Err (Stopped why))

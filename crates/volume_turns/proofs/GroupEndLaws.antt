@@ -37,7 +37,7 @@ use Rattle.volume_turns.specs.Turns.{EndsAtOnce, InRun, Said, SaysAll, FaultTold
 use Rattle.volume_turns.specs.Whole.{Finishes, Halted, SaysOut, UnderWay}
 use Rattle.volume_turns.proofs.HaltLaws.{broken_ends, broken_moments, ends_mid, held_behind, said_halts, said_halts_forced, said_halts_whole, says_part, sound_worn, stops_saying}
 use Rattle.volume_turns.proofs.OnceLaws.{roots_worn}
-use Rattle.volume_turns.proofs.TurnLaws.{forced_most, now_held, says_nothing}
+use Rattle.volume_turns.proofs.TurnLaws.{changes_snoc, forced_most, now_held, said_snoc, says_nothing}
 
 -- ---- the turns of a group and of its end
 
@@ -85,14 +85,6 @@ module _ (H : Sectors) (P : Moment → Type 0) (e : Errand) where
   goes_within L said i s (met ∷ mets) (c ∷ commands) goes = ap (λ (n : ℕ). suc n) (goes_within L (said ++ e.says (answer_in met s c).0) goes.0 (answer_in met s c).1 mets commands goes.2)
 
 -- ---- a last line
-
-said_snoc : (turns : List Turn) (t : Turn) → said_in (turns ++ t ∷ []) ≡ said_in turns ++ t.said
-said_snoc [] t = append-nil t.said
-said_snoc (u ∷ turns) t = ap (λ (x : List ℕ). u.said ++ x) (said_snoc turns t) ∙ sym (append_assoc u.said (said_in turns) t.said)
-
-changes_snoc : (turns : List Turn) (t : Turn) → t.changes ≡ [] → changes_in (turns ++ t ∷ []) ≡ changes_in turns
-changes_snoc [] t none = append-nil t.changes ∙ none
-changes_snoc (u ∷ turns) t none = ap (λ (x : List Change). u.changes ++ x) (changes_snoc turns t none)
 
 length_snoc : (turns : List Turn) (t : Turn) → length (turns ++ t ∷ []) ≡ suc (length turns)
 length_snoc turns t = let sum = length-append turns (t ∷ []) in omega (arith, sum)

@@ -3,7 +3,6 @@ use Rattle.std.proofs.Common.{◌≡◌, ℕ, ◌≤◌, Bool, true, false, List
 use Rattle.fsd_log.specs.Scan.{Placed}
 use Rattle.std.specs.Prelude.{⊤, not, IfOk, Result, Ok, Err}
 use Rattle.std.proofs.lemmas.Bool.{eq-eqb}
-use Rattle.std.proofs.lemmas.List.{append-nil}
 use Rattle.volume_layout.specs.declared.layout.Layout.{Layout}
 use Rattle.sector_disk.specs.declared.machine.Machine.{Ghosts}
 use Rattle.sector_disk.specs.declared.sector.WeakRun.{WeakRun}
@@ -27,22 +26,13 @@ use Rattle.fsd_runs.specs.Runs.{Goes, session_behind, changes_in, said_in, turns
 use Rattle.volume_turns.specs.declared.turns.Halt.{Halt}
 use Rattle.volume_turns.specs.declared.turns.Halt.TheVariants.{Fault as Stopped, Output}
 use Rattle.sector_disk.specs.Calls.{IsTimed, Since, StopsOnly, stops}
-use Rattle.volume_turns.specs.Group.{IsGroup, CutsOff, EndsGroup, WornIf, is_through, is_worn_end, turns_behind}
+use Rattle.volume_turns.specs.Group.{IsGroup, CutsOff, EndsGroup, WornIf, closing_turn, is_through, is_worn_end, turns_behind}
 use Rattle.volume_turns.specs.Once.{ClosesAndSays, EndsClosed, InClose, IsDone, SaysClosed, Unclosed, unit_of}
 use Rattle.client_desk.specs.declared.client.Client.{Client}
 use Rattle.volume_contract.specs.State.{State, Known, forced_of, volume_of}
 use Rattle.volume_turns.specs.Seats.{Seated, SitsAt, known_of, seated}
 use Rattle.volume_turns.specs.Turns.{Behind, InRun, OnDisk, RunsFrom, Said, StandsBehind}
-use Rattle.volume_turns.proofs.TurnLaws.{in_close, said_close}
-
--- a list of turns with the one that says the force
-said_last : (turns : List Turn) → said_in (turns ++ forced_turn ∷ []) ≡ said_in turns ++ forced_turn.said
-said_last [] = append-nil forced_turn.said
-said_last (u ∷ turns) = ap (λ (x : List ℕ). u.said ++ x) (said_last turns) ∙ sym (append_assoc u.said (said_in turns) forced_turn.said)
-
-changes_last : (turns : List Turn) → changes_in (turns ++ forced_turn ∷ []) ≡ changes_in turns
-changes_last [] = refl
-changes_last (u ∷ turns) = ap (λ (x : List Change). u.changes ++ x) (changes_last turns)
+use Rattle.volume_turns.proofs.TurnLaws.{changes_snoc, in_close, said_close, said_snoc}
 
 module _ (H : Sectors) (P Q : Moment → Type 0) (wider : (c : Moment) → P c → Q c) (L N : Volume → Image → Type 0) (last : (v : Volume) (i : Image) → L v i → N v i) (e : Errand) where
   pub goes_wider : (said : List ℕ) (i : Image) (s : Session) (mets : List Meeting) (commands : List ScriptCommand) → Goes H P L e said i s mets commands → Goes H Q N e said i s mets commands
@@ -66,17 +56,21 @@ module _ {S D : Type 0} (state : S → State) (has : S → Mounted → List Plac
     abbrev turns : List Turn
     turns = turns_begun e ran.mets (session_over (volume_of k)) commands
 
-    module _ (behind_it : StandsBehind state has M e (seated k no_clients) (forced_of k) ran.mets commands w a m) (result : Result Bool Halt) (at_text : ClosesAndSays M (known_of behind_it.after) behind_it.told forced_turn.said m b (unit_of result)) where
-      both : (more : List Turn) → StopsOnly M a b (InRun k (forced_of k) (turns ++ forced_turn ∷ more) (M.now a))
-      both more = then_on M.moment (stops M) a m b (InRun k (forced_of k) (turns ++ forced_turn ∷ more) (M.now a)) (ran.moments (forced_turn ∷ more))
-          (leaves_more M.moment (stops M) m b (InClose behind_it.after.mounted.volume.layout (known_of behind_it.after) behind_it.told forced_turn.said (M.now m)) (InRun k (forced_of k) (turns ++ forced_turn ∷ more) (M.now a))
-          (λ left c. in_close k (known_of behind_it.after) (forced_of k) behind_it.told turns forced_turn more refl behind_it.layout behind_it.windows behind_it.changes behind_it.least behind_it.forced (M.now a) (M.now m) left behind_it.open_windows behind_it.said c) at_text.moments)
+    -- a text that is said once all is forced
+    module _ (behind_it : StandsBehind state has M e (seated k no_clients) (forced_of k) ran.mets commands w a m) (text : List ℕ) where
+      abbrev t : Turn
+      t = closing_turn text
 
-      all_changes : behind_it.after.changes ≡ k.changes ++ changes_in (turns ++ forced_turn ∷ [])
-      all_changes = behind_it.changes ∙ ap (λ (h : List Change). k.changes ++ h) (sym (changes_last turns))
+      pub closing_moments : StopsOnly M m b (InClose behind_it.after.mounted.volume.layout (known_of behind_it.after) behind_it.told text (M.now m)) → (more : List Turn) → StopsOnly M a b (InRun k (forced_of k) (turns ++ t ∷ more) (M.now a))
+      closing_moments moments more = then_on M.moment (stops M) a m b (InRun k (forced_of k) (turns ++ t ∷ more) (M.now a)) (ran.moments (t ∷ more))
+          (leaves_more M.moment (stops M) m b (InClose behind_it.after.mounted.volume.layout (known_of behind_it.after) behind_it.told text (M.now m)) (InRun k (forced_of k) (turns ++ t ∷ more) (M.now a))
+          (λ left c. in_close k (known_of behind_it.after) (forced_of k) behind_it.told turns t more refl behind_it.layout behind_it.windows behind_it.changes behind_it.least behind_it.forced (M.now a) (M.now m) left behind_it.open_windows behind_it.said c) moments)
+
+      all_changes : behind_it.after.changes ≡ k.changes ++ changes_in (turns ++ t ∷ [])
+      all_changes = behind_it.changes ∙ ap (λ (h : List Change). k.changes ++ h) (sym (changes_snoc turns t refl))
 
       sound_all : (i : Image) → IsSound behind_it.after.mounted.volume.layout behind_it.after.windows behind_it.after.changes (length behind_it.after.changes) i
-          → IsSound k.mounted.volume.layout k.windows (k.changes ++ changes_in (turns ++ forced_turn ∷ [])) (length (k.changes ++ changes_in (turns ++ forced_turn ∷ []))) i
+          → IsSound k.mounted.volume.layout k.windows (k.changes ++ changes_in (turns ++ t ∷ [])) (length (k.changes ++ changes_in (turns ++ t ∷ []))) i
       sound_all i sound = subst (λ (h : List Change). IsSound k.mounted.volume.layout k.windows h (length h) i) all_changes
           (subst (λ (x : List WeakRun). IsSound k.mounted.volume.layout x behind_it.after.changes (length behind_it.after.changes) i) behind_it.windows
           (subst (λ (l : Layout). IsSound l behind_it.after.windows behind_it.after.changes (length behind_it.after.changes) i) behind_it.layout sound))
@@ -84,11 +78,11 @@ module _ {S D : Type 0} (state : S → State) (has : S → Mounted → List Plac
       own_as : (i : Image) → HasOwnRoots behind_it.after.mounted.volume.layout (weak_of behind_it.after.windows) i → HasOwnRoots (session_behind ran.mets (session_over (volume_of k)) commands).volume.layout (weak_of k.windows) i
       own_as i own = subst (λ (x : Session). HasOwnRoots x.volume.layout (weak_of k.windows) i) behind_it.is (subst (λ (x : List WeakRun). HasOwnRoots behind_it.after.mounted.volume.layout (weak_of x) i) behind_it.windows own)
 
-      done : SaysClosed M (known_of behind_it.after) forced_turn.said m b → IsDone M k (turns ++ forced_turn ∷ []) (session_behind ran.mets (session_over (volume_of k)) commands).volume a b
-      done c =
+      pub closing_done : SaysClosed M (known_of behind_it.after) text m b → IsDone M k (turns ++ t ∷ []) (session_behind ran.mets (session_over (volume_of k)) commands).volume a b
+      closing_done c =
           record {
             windows = c.windows ∙ behind_it.open_windows;
-            said = c.said ∙ ap (λ (x : List ℕ). x ++ forced_turn.said) behind_it.said ∙ append_assoc (M.now a).said (said_in turns) forced_turn.said ∙ ap (λ (x : List ℕ). (M.now a).said ++ x) (sym (said_last turns));
+            said = c.said ∙ ap (λ (x : List ℕ). x ++ text) behind_it.said ∙ append_assoc (M.now a).said (said_in turns) text ∙ ap (λ (x : List ℕ). (M.now a).said ++ x) (sym (said_snoc turns t));
             sound = sound_all (M.now b).image c.sound;
             held = λ d left. sound_all d.image (c.held d left);
             tells = subst (λ (l : Layout). told l (M.now b).image ≡ Some (telling_of (session_behind ran.mets (session_over (volume_of k)) commands).volume)) behind_it.layout (c.tells ∙ ap (λ (x : Session). Some (telling_of x.volume)) behind_it.is);
@@ -99,13 +93,15 @@ module _ {S D : Type 0} (state : S → State) (has : S → Mounted → List Plac
             rooted = λ d left. own_as d.image (c.rooted d left);
           }
 
-      said_all : (why : Fault) → Unclosed M (known_of behind_it.after) behind_it.told m b → Said M k (forced_of k) why turns a b
-      said_all why x = said_close M k (known_of behind_it.after) (forced_of k) behind_it.told turns behind_it.layout behind_it.windows behind_it.changes behind_it.least behind_it.forced a m b behind_it.open_windows behind_it.said timed x why
+      pub closing_unsaid : (why : Fault) → Unclosed M (known_of behind_it.after) behind_it.told m b → Said M k (forced_of k) why turns a b
+      closing_unsaid why x = said_close M k (known_of behind_it.after) (forced_of k) behind_it.told turns behind_it.layout behind_it.windows behind_it.changes behind_it.least behind_it.forced a m b behind_it.open_windows behind_it.said timed x why
 
+    -- the line of the force itself
+    module _ (behind_it : StandsBehind state has M e (seated k no_clients) (forced_of k) ran.mets commands w a m) (result : Result Bool Halt) (at_text : ClosesAndSays M (known_of behind_it.after) behind_it.told forced_turn.said m b (unit_of result)) where
       ends_by : (r : Result Bool Halt) (cut : Bool) → IfOk r (λ x. x ≡ not cut) → is_through cut ran.mets commands ≡ true → EndsClosed M (known_of behind_it.after) behind_it.told forced_turn.said m b (unit_of r) → EndsGroup M e k cut ran.mets commands a b r
-      ends_by (Ok x) cut same through c = (same, through, done c)
+      ends_by (Ok x) cut same through c = (same, through, closing_done behind_it forced_turn.said c)
       ends_by (Err Output) cut same through c = tt
-      ends_by (Err (Stopped fault)) cut same through c = (c.0, said_all fault c.1)
+      ends_by (Err (Stopped fault)) cut same through c = (c.0, closing_unsaid behind_it forced_turn.said fault c.1)
 
       pub group_done : (cut : Bool) → IfOk result (λ x. x ≡ not cut) → CutsOff cut ran.mets (session_over (volume_of k)) commands → is_through cut ran.mets commands ≡ true → ((v : Volume) (i : Image) → Behind run v i → WornIf cut v i) → IsGroup M e k from commands a b result
       group_done cut same before through last = record {
@@ -113,7 +109,7 @@ module _ {S D : Type 0} (state : S → State) (has : S → Mounted → List Plac
         cut = cut;
         before = before;
         goes = λ t le. goes_wider (in_runs k.windows) (M.left_since m t) (M.left_since b t) (λ c was. since t c (omega (arith, le, later)) was) (Behind run) (WornIf cut) last e (M.now a).said from.image (session_over (volume_of k)) ran.mets commands (ran.goes t le);
-        moments = λ more. subst (λ (x : Bool). StopsOnly M a b (InRun k (forced_of k) (turns ++ turns_behind x more) (M.now a))) (sym through) (both more);
+        moments = λ more. subst (λ (x : Bool). StopsOnly M a b (InRun k (forced_of k) (turns ++ turns_behind x more) (M.now a))) (sym through) (closing_moments behind_it forced_turn.said at_text.moments more);
         ends = ends_by result cut same through at_text.ends;
       }
 

@@ -1,5 +1,6 @@
 pub mod AnsweringLaws
 pub mod ApartLaws
+pub mod BeforeLaws
 pub mod BehindLaws
 pub mod CallEndLaws
 pub mod CallKeepLaws
@@ -13,6 +14,7 @@ pub mod DidLaws
 pub mod DumpEndLaws
 pub mod DumpLaws
 pub mod DumpRunLaws
+pub mod DumpedLaws
 pub mod EachLaws
 pub mod GenerateLaws
 pub mod GetLaws
@@ -23,6 +25,9 @@ pub mod HealLaws
 pub mod InputLaws
 pub mod LastLaws
 pub mod LineLaws
+pub mod LoadingLaws
+pub mod LookedLaws
+pub mod LookingLaws
 pub mod ListLaws
 pub mod MountLaws
 pub mod NumberLaws
@@ -36,6 +41,7 @@ pub mod QuietLaws
 pub mod ReadLaws
 pub mod ReadingLaws
 pub mod ReasonLaws
+pub mod RestoreLaws
 pub mod RunLaws
 pub mod SaidLaws
 pub mod SayLaws

@@ -75,7 +75,7 @@ call_earlier : (may : ℕ → Bool) (i j k : Image) → IsWorn may i j → (clie
 call_earlier may i j k worn clients c (Calls.Next len) met find = next_earlier may i j k worn (opened_by clients c) len met.damaged find
 call_earlier may i j k worn clients c call met find = tt
 
-earlier_in : (may : ℕ → Bool) (i j k : Image) → IsWorn may i j → (s : Session) (command : ScriptCommand) (met : Met) → MayFindIn j k s command met → MayFindIn i k s command met
+pub earlier_in : (may : ℕ → Bool) (i j k : Image) → IsWorn may i j → (s : Session) (command : ScriptCommand) (met : Met) → MayFindIn j k s command met → MayFindIn i k s command met
 earlier_in may i j k worn s (Plain command) met find = find_earlier may i j k worn s.volume command met find
 earlier_in may i j k worn s (OfClient c call) met find = call_earlier may i j k worn s.clients c call met find
 
@@ -332,6 +332,13 @@ module _ {S D : Type 0} (state : S → State) (has : S → Mounted → List Plac
       );
     }
     step_fault why does more = absurd does
+
+    pub step_fault_mets : (why : Fault) (does : DoesIn state has command v w k (M.now a) (M.now m) (Err why)) (more : List ScriptCommand) → (step_fault why does more).mets ≡ []
+    unfolding step_fault
+    step_fault_mets (Ends.Device s) does more = refl
+    step_fault_mets Ends.Memory does more = refl
+    step_fault_mets Ends.WornOut does more = refl
+    step_fault_mets why does more = absurd does
 
 -- ---- commands one after another
 

@@ -365,6 +365,15 @@ forced_more : (t : Turn) (turns : List Turn) → forced_in turns ≤ length (cha
 forced_more t turns rest true = let sum = length-append t.changes (changes_in turns) in omega (arith, rest, sum)
 forced_more t turns rest false = omega arith
 
+-- with one more turn
+pub said_snoc : (turns : List Turn) (t : Turn) → said_in (turns ++ t ∷ []) ≡ said_in turns ++ t.said
+said_snoc [] t = append-nil t.said
+said_snoc (u ∷ turns) t = ap (λ (x : List ℕ). u.said ++ x) (said_snoc turns t) ∙ sym (append_assoc u.said (said_in turns) t.said)
+
+pub changes_snoc : (turns : List Turn) (t : Turn) → t.changes ≡ [] → changes_in (turns ++ t ∷ []) ≡ changes_in turns
+changes_snoc [] t none = append-nil t.changes ∙ none
+changes_snoc (u ∷ turns) t none = ap (λ (x : List Change). u.changes ++ x) (changes_snoc turns t none)
+
 pub forced_most : (turns : List Turn) → forced_in turns ≤ length (changes_in turns)
 forced_most [] = omega arith
 forced_most (t ∷ turns) = forced_more t turns (forced_most turns) (list_any (λ u. u.forces) (t ∷ turns))

@@ -31,6 +31,10 @@ CutsOff false mets s commands = ⊤
 abbrev pub is_through : (cut : Bool) → List Meeting → List ScriptCommand → Bool
 is_through cut mets commands = cut || length mets == length commands
 
+-- this is said once all is forced
+abbrev pub closing_turn : List ℕ → Turn
+closing_turn bytes = record { said = bytes; changes = []; forces = true }
+
 -- what follows the commands that were begun: the force, and what stands behind it, such as the line of a fault that cut
 -- the group off; or nothing, where it was broken off
 abbrev pub turns_behind : (through : Bool) → (more : List Turn) → List Turn

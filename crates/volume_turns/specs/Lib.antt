@@ -11,9 +11,11 @@ pub mod Healing
 pub mod Last
 pub mod Line
 pub mod Listing
+pub mod Loading
 pub mod Numbers
 pub mod Once
 pub mod Reasons
+pub mod Restore
 pub mod Running
 pub mod Script
 pub mod Seats

@@ -28,7 +28,7 @@ use volume_contract::Files;
 
 // Says that the input is too long, and gives the status. Nothing was changed, so there is nothing to force; what the
 // mount wrote is brought to the disk.
-fn refuse_input<M: Machine, V: Files<M> + Drop>(v: V, m: &mut M) -> u8
+pub(crate) fn refuse_input<M: Machine, V: Files<M> + Drop>(v: V, m: &mut M) -> u8
     ensures ends { EndsMounted M.Machine IsStatusOfLong m.old m.new result }
     ensures takes { TakesNothing M.Machine m.old m.new result }
     ensures says { result ≡ 3 → M.honest m.new → SaysOfCall Nothing AreOfPage (V.state v).layout (M.now m.old).said (M.now m.new) }

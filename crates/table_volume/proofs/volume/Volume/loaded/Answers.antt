@@ -1,4 +1,4 @@
-use Rattle.std.proofs.Common.{◌≡◌, ℕ, ◌≤◌, Bool, true, false, List, length, None, Ok, Result, rules, refl, sym, ap, subst, ◌∙◌}
+use Rattle.std.proofs.Common.{inl, inr, ◌≤◌, Bool, length, None, Ok, rules, refl, sym, ap, subst, ◌∙◌}
 use Rattle.std.proofs.lemmas.Result.{err_from_is_err_and}
 use Rattle.sector_disk.proofs.CallLaws.{reads_told, told_up}
 use Rattle.sector_set.specs.Area.{AreIn}
@@ -68,6 +68,9 @@ pub invariant_of-self-then-not-branch : goal.invariant_of-self-then-not-branch
 invariant_of-self-then-not-branch g c =
     let done = c.load-done in
     whole_edited g.M.Machine _ c.over-source.result c.args.m.now done.new.m _ c.args.self.now c.self.view_is c.self.invariant None done.new.self.cache done.new.self.free_pages c.in_ok-done.ensures.edits done.ensures.waiting c.requires.up c.requires.numbered
+
+pub returns-then-not-branch-clause-order : goal.returns-then-not-branch-clause-order
+returns-then-not-branch-clause-order g c = inr (tt, inl refl)
 
 pub returns-then-not-branch-clause-enters : goal.returns-then-not-branch-clause-enters
 returns-then-not-branch-clause-enters g c =
