@@ -1,21 +1,40 @@
 -- Calls that read a volume and say.
-use Rattle.std.proofs.Common.{◌≡◌, ℕ, Bool, false, List, Option, None, refl, ◌∙◌, subst, arith}
+use Rattle.std.proofs.Common.{◌≡◌, ℕ, Bool, true, false, List, [], ◌++◌, Option, None, drop, take, refl, sym, ◌∙◌, ap, subst, arith, append_assoc}
+use Rattle.std.proofs.lemmas.List.{append-nil, take-append-drop}
 use Rattle.sector_disk.specs.declared.machine.Machine.{Ghosts}
 use Rattle.sector_disk.specs.Calls.{Counts, OnlyReads}
 use Rattle.sector_disk.specs.Image.{AreShort}
-use Rattle.sector_disk.specs.Machine.{Moment, Utters, Wears}
+use Rattle.std.specs.Prelude.{Ok, Err}
+use Rattle.sector_disk.specs.Machine.{Elapses, LeavesOnly, Moment, OutputCause, Says, Trusts, Utters, Wears}
 use Rattle.sector_disk.proofs.CallLaws.{faults_then}
-use Rattle.sector_disk.proofs.Holding.{trusts_on}
-use Rattle.sector_disk.proofs.Moments.{leaves_more, then_on}
+use Rattle.sector_disk.proofs.Holding.{trusts_on, utters_none}
+use Rattle.sector_disk.proofs.Moments.{goes_on, leaves_more, started, then_on}
 use Rattle.fsd_log.specs.Scan.{Placed}
 use Rattle.fsd_sound.specs.Mounted.{Mounted}
 use Rattle.volume_contract.specs.State.{Ages, Known, Stands, State}
 use Rattle.scrub.specs.Reading.{ReadsVolume}
-use Rattle.volume_dump.specs.Dump.{ReadsAndSays}
+use Rattle.volume_dump.specs.Dump.{IsBegun, ReadsAndSays}
 use Rattle.volume_dump.specs.Saying.{SaysVolume}
 
 counts_then : (fails : Bool) (a b c : ℕ) → b ≡ a → Counts fails b c → Counts fails a c
 counts_then fails a b c same second = subst (λ (n : ℕ). Counts fails n c) same second
+
+-- ---- what a text begins with
+
+begun_same : (front whole : List ℕ) → whole ≡ front → IsBegun front whole
+begun_same front whole same = ([], same ∙ sym (append-nil front))
+
+begun_then : (a b c : List ℕ) → IsBegun a b → IsBegun b c → IsBegun a c
+begun_then a b c first then = (first.0 ++ then.0, then.1 ∙ ap (λ (x : List ℕ). x ++ then.0) first.1 ∙ append_assoc a first.0 then.0)
+
+-- of a text that is said whole
+begun_part : (bytes : List ℕ) (old left new : Moment) → Says bytes old new → Utters bytes old left → IsBegun left.said new.said
+begun_part bytes old left new all u = (
+  drop u.heard bytes,
+  all.said ∙ ap (λ (x : List ℕ). old.said ++ x) (sym (take-append-drop u.heard bytes)) ∙ sym (append_assoc old.said (take u.heard bytes) (drop u.heard bytes)) ∙ ap (λ (x : List ℕ). x ++ drop u.heard bytes) (sym u.said),
+)
+
+-- ---- calls
 
 module _ {D : Type 0} {M : Ghosts D} {a b : D} where
   -- a stop leaves more
@@ -30,6 +49,8 @@ module _ {D : Type 0} {M : Ghosts D} {a b : D} where
     exit = λ h. more h (M.now b) (s.exit h);
     since = s.since;
     any_moment = λ h. leaves_more M.moment M.left_since a b (P (M.now a)) (R (M.now a)) (more h) (s.any_moment h);
+    begun = s.begun;
+    said_first = s.said_first;
   }
 
   -- a call that only reads
@@ -44,6 +65,8 @@ module _ {D : Type 0} {M : Ghosts D} {a b : D} where
     exit = r.worn;
     since = r.since;
     any_moment = r.any_moment;
+    begun = λ said h. begun_same (M.now a).said (M.now b).said (r.worn h).said;
+    said_first = λ said h. leaves_more M.moment M.left_since a b (Wears (M.now a)) (λ left. IsBegun left.said (M.now b).said) (λ left w. begun_same left.said (M.now b).said ((r.worn h).said ∙ sym w.said)) (r.any_moment h);
   }
 
 module _ {D : Type 0} {M : Ghosts D} {a b c : D} where
@@ -63,6 +86,10 @@ module _ {D : Type 0} {M : Ghosts D} {a b c : D} where
         any_moment = λ h. then_on M.moment M.left_since a b c (R (M.now a))
             (leaves_more M.moment M.left_since a b (P (M.now a)) (R (M.now a)) (first_so (back h)) (first.any_moment (back h)))
             (leaves_more M.moment M.left_since b c (Q (M.now b)) (R (M.now a)) (then_so h) (second.any_moment h));
+        begun = λ said h. begun_then (M.now a).said (M.now b).said (M.now c).said (first.begun refl (back h)) (second.begun said h);
+        said_first = λ said h. then_on M.moment M.left_since a b c (λ left. IsBegun left.said (M.now c).said)
+            (leaves_more M.moment M.left_since a b (λ left. IsBegun left.said (M.now b).said) (λ left. IsBegun left.said (M.now c).said) (λ left so_far. begun_then left.said (M.now b).said (M.now c).said so_far (second.begun said h)) (first.said_first refl (back h)))
+            (second.said_first said h);
       }
 
 -- ---- over a volume
@@ -91,4 +118,41 @@ module _ {D S : Type 0} {M : Ghosts D} {state : S → State} {has : S → Mounte
     disk = s;
     same = refl;
     stands = λ h k stands. wears k (M.now a) (M.now b) (short (s.trust.honest h)) (record { image = (s.exit h).image; windows = (s.exit h).windows }) stands;
+  }
+
+-- ---- one call of the output
+
+module _ {D : Type 0} (M : Ghosts D) (a b : D) (bytes : List ℕ) (only : (c : Moment) → M.honest a → M.left_since a (M.moment a) c → c ≡ M.now a) (trust : Trusts (M.tells a) (M.tells b) (M.honest a) (M.honest b)) (ledger : M.tells b → M.ledger b ≡ M.ledger a) (cut : M.honest b → Utters bytes (M.now a) (M.now b))
+    (time : M.honest b → Elapses (M.moment a) (M.moment b) (M.left_since a) (M.left_since b) (Utters bytes (M.now a))) where
+  uttered : M.honest b → LeavesOnly M.moment M.left_since a b (Utters bytes (M.now a))
+  uttered h = goes_on M.moment M.left_since a a b (Utters bytes (M.now a)) (Utters bytes (M.now a)) (started M.moment M.left_since a (M.now a) (Utters bytes (M.now a)) (λ c left. only c (trust.honest h) left) (utters_none bytes (M.now a))) (time h) (λ c now. now)
+
+  pub says_whole : {T E : Type 0} (x : T) → OutputCause {E = E} (M.report a) (M.report b) (Ok x) → (M.honest b → Says bytes (M.now a) (M.now b)) → ReadsAndSays M None false (Utters bytes) a b
+  says_whole x cause said = record {
+    sectors = cause.sectors;
+    faults = (cause.disk, cause.place);
+    input = cause.input;
+    output = cause.output.stays;
+    trust = trust;
+    ledger = ledger;
+    exit = cut;
+    since = λ h. (time h).keeps;
+    any_moment = uttered;
+    begun = λ is h. (bytes, (said h).said);
+    said_first = λ is h. leaves_more M.moment M.left_since a b (Utters bytes (M.now a)) (λ left. IsBegun left.said (M.now b).said) (λ left u. begun_part bytes (M.now a) left (M.now b) (said h) u) (uttered h);
+  }
+
+  pub says_cut : {T E : Type 0} (e : E) → OutputCause {T = T} (M.report a) (M.report b) (Err e) → ReadsAndSays M None true (Utters bytes) a b
+  says_cut e cause = record {
+    sectors = cause.sectors;
+    faults = (cause.disk, cause.place);
+    input = cause.input;
+    output = cause.output.failed;
+    trust = trust;
+    ledger = ledger;
+    exit = cut;
+    since = λ h. (time h).keeps;
+    any_moment = uttered;
+    begun = λ is h. absurd (cc is);
+    said_first = λ is h. absurd (cc is);
   }

@@ -72,7 +72,8 @@ pub record ReadsAndSays {D : Type 0} (M : Ghosts D) (fault : Option ℕ) (unsaid
   pub exit : M.honest new → R (M.now old) (M.now new)
   pub since : M.honest new → Since M old new
   pub any_moment : M.honest new → LeavesOnly M.moment M.left_since old new (R (M.now old))
-  -- what was said at a moment is a beginning of what is said at the exit
+  -- where the output hasn't failed, what was said before, and at each moment, is a beginning of what is said at the exit
+  pub begun : IsFalse unsaid → M.honest new → IsBegun (M.now old).said (M.now new).said
   pub said_first : IsFalse unsaid → M.honest new → LeavesOnly M.moment M.left_since old new (λ left. IsBegun left.said (M.now new).said)
 
 -- What it tells of any image, by the layout of its volume alone.
