@@ -38,6 +38,7 @@ pub mod ReadLaws
 pub mod ReadingLaws
 pub mod ReasonLaws
 pub mod RestoreLaws
+pub mod RestoreOutLaws
 pub mod RunLaws
 pub mod SaidLaws
 pub mod SayLaws
