@@ -6,7 +6,7 @@ use Rattle.fsd_texts.specs.declared.fault.Fault.{Fault}
 use Rattle.fsd_texts.specs.declared.fault.Fault.TheVariants as Ends
 use Rattle.fsd_runs.specs.Errands.{fault_status}
 use Rattle.fsd_runs.proofs.StatusLaws.{one_behind, one_in_front}
-use Rattle.volume_turns.specs.Status.{IsMadeStatus, IsOneStatus, IsPutStatus, IsScriptStatus, IsStatusBroken}
+use Rattle.volume_turns.specs.Status.{IsDumpStatus, IsMadeStatus, IsOneStatus, IsPutStatus, IsScriptStatus, IsStatusBroken}
 use Rattle.volume_turns.specs.Commands.{IsStatusFrom}
 use Rattle.volume_turns.specs.Steps.{IsOfVolume}
 use Rattle.fsd_runs.specs.declared.request.Request.TheVariants.{One}
@@ -145,3 +145,24 @@ made_complete_is result (inr broken) disk said = broken_complete made_complete r
 
 pub made_not_five : (result : ℕ) → IsMadeStatus result → result ≡ 5 → ⊥
 made_not_five result status five = let at : IsTrue (is_status_of made_all 5) = subst (λ (n : ℕ). IsTrue (is_status_of made_all n)) five (made_status result status) in cc at
+
+-- ---- a dump
+
+abbrev dump_complete : List ℕ
+dump_complete = 0 ∷ 1 ∷ 3 ∷ 7 ∷ 8 ∷ 9 ∷ []
+
+abbrev dump_all : List ℕ
+dump_all = 0 ∷ 1 ∷ 3 ∷ 7 ∷ 8 ∷ 9 ∷ 4 ∷ 6 ∷ []
+
+pub dump_status : (result : ℕ) → IsDumpStatus result → IsTrue (is_status_of dump_all result)
+dump_status result (inl low) = low_among dump_all refl refl result low
+dump_status result (inr (inl eight)) = one_at dump_all 8 result eight refl
+dump_status result (inr (inr broken)) = broken_all dump_all refl refl refl result refl refl broken
+
+pub dump_complete_is : (result : ℕ) → IsDumpStatus result → (result ≡ 4 → ⊥) → (result ≡ 6 → ⊥) → IsTrue (is_status_of dump_complete result)
+dump_complete_is result (inl low) disk said = low_among dump_complete refl refl result low
+dump_complete_is result (inr (inl eight)) disk said = one_at dump_complete 8 result eight refl
+dump_complete_is result (inr (inr broken)) disk said = broken_complete dump_complete refl refl refl result disk said broken
+
+pub dump_not_five : (result : ℕ) → IsDumpStatus result → result ≡ 5 → ⊥
+dump_not_five result status five = let at : IsTrue (is_status_of dump_all 5) = subst (λ (n : ℕ). IsTrue (is_status_of dump_all n)) five (dump_status result status) in cc at

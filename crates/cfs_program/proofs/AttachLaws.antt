@@ -1,5 +1,5 @@
 -- A run behind its attach: over the image that was found, or by the line of the fault.
-use Rattle.std.proofs.Common.{◌≡◌, ◌⊎◌, inl, inr, ℕ, ◌+◌, ◌≤◌, Bool, false, List, ◌++◌, Option, Err, sym, ◌∙◌, ap, arith}
+use Rattle.std.proofs.Common.{◌≡◌, ◌⊎◌, inl, inr, ℕ, ◌+◌, ◌≤◌, false, List, ◌++◌, Option, Err, sym, ◌∙◌, ap, arith}
 use Rattle.std.specs.Prelude.{IsFalse, IsTrue}
 use Rattle.volume_layout.specs.declared.layout.Layout.{Layout}
 use Rattle.sector_disk.specs.declared.machine.Attach.TheVariants.{Old}
@@ -24,7 +24,7 @@ use Rattle.fsd_runs.proofs.SafeLaws.{never_refused}
 use Rattle.volume_contract.specs.Mount.{IsSoundAt}
 use Rattle.volume_contract.specs.State.{Ages}
 use Rattle.volume_turns.specs.Answering.{SaysNoReply}
-use Rattle.volume_turns.specs.Causes.{FailsInput, SaysFaultAt, SaysOfInput, TellsImage, is_of_fault}
+use Rattle.volume_turns.specs.Causes.{FailsInput, Front, SaysFaultAt, SaysOfInput, TellsImage, is_of_fault}
 use Rattle.volume_turns.specs.Healing.{HealsOver, IfScrub, WritesMounting}
 use Rattle.volume_turns.specs.Line.{EndsWith, IsStatusAs, is_unsaid}
 use Rattle.volume_turns.specs.Status.{CountsNone, CountsRun, CountsTaking}
@@ -84,8 +84,8 @@ module _ {D : Type 0} {M : Ghosts D} {path : List ℕ} {sectors : ℕ} {a b z : 
   pub found_later : M.honest z → M.moment a ≤ M.moment b
   found_later h = (x.finds.time (x.runs.honest h)).later
 
-  pub found_image : (script : Bool) (AreCopies : Layout → ℕ → ℕ → Type 0) (made : Option ℕ) (status : ℕ) → M.honest z → TellsImage script AreCopies made sectors (M.now b) (M.now z) status → TellsFound script AreCopies made (M.now a) (M.now z) status
-  found_image script AreCopies made status h tells = let back = x.runs.honest h in tells_found script AreCopies made (M.now a) (M.now b) (M.now z) sectors status (x.finds.found back) (x.finds.size back) tells
+  pub found_image : (kind : Front) (AreCopies : Layout → ℕ → ℕ → Type 0) (made : Option ℕ) (status : ℕ) → M.honest z → TellsImage kind AreCopies made sectors (M.now b) (M.now z) status → TellsFound kind AreCopies made (M.now a) (M.now z) status
+  found_image kind AreCopies made status h tells = let back = x.runs.honest h in tells_found kind AreCopies made (M.now a) (M.now b) (M.now z) sectors status (x.finds.found back) (x.finds.size back) tells
 
   -- what a scrub has healed
   pub found_heals : (command : Command) → M.honest z → (M.honest a → AreShort (M.now a).windows) → ((m : D) → M.honest m → IsTimed M m)

@@ -1,5 +1,5 @@
 -- What a run tells of the image that its attach found, and of its input.
-use Rattle.std.proofs.Common.{◌≡◌, inl, inr, ℕ, ◌<◌, ◌^◌, ◌-◌, min, Bool, Option, List, length, refl, ◌∙◌, subst}
+use Rattle.std.proofs.Common.{◌≡◌, inl, inr, ℕ, ◌<◌, ◌^◌, ◌-◌, min, Option, List, length, refl, ◌∙◌, subst}
 use Rattle.std.specs.Prelude.{IsFalse, IsTrue}
 use Rattle.volume_layout.specs.declared.layout.Layout.{Layout}
 use Rattle.sector_disk.specs.Image.{IsWorn, Windows, open_damage}
@@ -12,22 +12,22 @@ use Rattle.volume_turns.specs.Answering.{WritesOne}
 use Rattle.cfs_program.proofs.FormatLaws.{untouched_by}
 use Rattle.sector_disk.specs.Machine.{Finds, Wears, Moment, Report, Rose, Utters}
 use Rattle.fsd_texts.specs.Script.{max_input}
-use Rattle.volume_turns.specs.Causes.{FailsInput, HasSpent, HasVolume, SaysCause, TellsImage, is_of_mounted}
+use Rattle.volume_turns.specs.Causes.{FailsInput, Front, HasSpent, HasVolume, SaysCause, TellsImage, is_of_mounted}
 use Rattle.volume_turns.specs.Healing.{is_of_answer}
 use Rattle.volume_turns.specs.Line.{IsStatusAs}
 use Rattle.cfs_program.specs.Opening.{AsFound, WritesFound, is_from_outside}
 
 -- ---- behind the attach
 
--- What a run tells of the image that its attach found, by its status, whether it is a script, what its calls may tell
--- as lost, and how many commands it makes up, if it does.
-pub record TellsFound (script : Bool) (AreCopies : Layout → ℕ → ℕ → Type 0) (made : Option ℕ) (old new : Moment) (status : ℕ) : Type 0 where
+-- What a run tells of the image that its attach found, by its status, what it says in front of its last line, what its
+-- calls may tell as lost, and how many commands it makes up, if it does.
+pub record TellsFound (kind : Front) (AreCopies : Layout → ℕ → ℕ → Type 0) (made : Option ℕ) (old new : Moment) (status : ℕ) : Type 0 where
   pub mounted : IsTrue (is_of_mounted status) → AsFound HasVolume old
-  pub refused : status ≡ 3 → AsFound (λ sectors at. SaysCause script AreCopies sectors at new) old
+  pub refused : status ≡ 3 → AsFound (λ sectors at. SaysCause kind AreCopies sectors at new) old
   pub spent : status ≡ 9 → AsFound (HasSpent made) old
 
-pub tells_found : (script : Bool) (AreCopies : Layout → ℕ → ℕ → Type 0) (made : Option ℕ) (old at new : Moment) (sectors status : ℕ) → Finds old at → sectors ≡ min (length at.image) (2 ^ 32 - 1) → TellsImage script AreCopies made sectors at new status → TellsFound script AreCopies made old new status
-tells_found script AreCopies made old at new sectors status found size tells = record {
+pub tells_found : (kind : Front) (AreCopies : Layout → ℕ → ℕ → Type 0) (made : Option ℕ) (old at new : Moment) (sectors status : ℕ) → Finds old at → sectors ≡ min (length at.image) (2 ^ 32 - 1) → TellsImage kind AreCopies made sectors at new status → TellsFound kind AreCopies made old new status
+tells_found kind AreCopies made old at new sectors status found size tells = record {
   mounted = λ any. record { at = at; found = found; sectors = sectors; size = size; holds = tells.mounted any };
   refused = λ three. record { at = at; found = found; sectors = sectors; size = size; holds = tells.refused three };
   spent = λ nine. record { at = at; found = found; sectors = sectors; size = size; holds = tells.spent nine };

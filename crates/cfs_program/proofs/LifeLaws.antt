@@ -202,21 +202,21 @@ module _ (name : List ℕ) (byte : ℕ) where
   changes_one reply (inr (key, sectors, is)) nought = ap (changes_of the_put) is
 
   -- it was done
-  put_through : (cut : Cut) → MayCut the_request cut → (mets : List Meeting) (v : Volume) → length mets ≡ length (errand_in the_request (byte ∷ []) cut).commands
-      → ((errand_in the_request (byte ∷ []) cut).ends (answered mets (session_over v) (errand_in the_request (byte ∷ []) cut).commands)).status ≡ 0
-      → changes_in (turns_of (errand_in the_request (byte ∷ []) cut) mets (session_over v)) ≡ the_change ∷ []
+  put_through : (cut : Cut) → MayCut the_request cut → (mets : List Meeting) (v : Volume) → length mets ≡ length (errand_in the_request (byte ∷ []) cut v).commands
+      → ((errand_in the_request (byte ∷ []) cut v).ends (answered mets (session_over v) (errand_in the_request (byte ∷ []) cut v).commands)).status ≡ 0
+      → changes_in (turns_of (errand_in the_request (byte ∷ []) cut v) mets (session_over v)) ≡ the_change ∷ []
   put_through None may mets v through nought =
       let once = answered_once the_put v mets through in
       let met = once.0 in
       ap changes_in once.1.turns
       ∙ append-nil (changes_of the_put (reply_to the_put v met))
       ∙ changes_one (reply_to the_put v met) (put_reply met.met name (byte ∷ []) None v) (sym once.1.status ∙ nought)
-  put_through (Some (k, why)) may mets v through nought = absurd may
+  put_through (Some cutting) may mets v through nought = absurd may
 
   -- it was begun or not
   put_begun : (cut : Cut) → MayCut the_request cut → (hurt : Sectors) (Passed : Moment → Type 0) (said : List ℕ) (i : Image) (mets : List Meeting) (v : Volume)
-      → Goes hurt Passed (IsCutAt cut) (errand_in the_request (byte ∷ []) cut) said i (session_over v) mets (errand_in the_request (byte ∷ []) cut).commands → (whole : ℕ)
-      → (changes_in (take (suc whole) (turns_of (errand_in the_request (byte ∷ []) cut) mets (session_over v))) ≡ []) ⊎ (changes_in (take (suc whole) (turns_of (errand_in the_request (byte ∷ []) cut) mets (session_over v))) ≡ the_change ∷ [])
+      → Goes hurt Passed (IsCutAt cut) (errand_in the_request (byte ∷ []) cut v) said i (session_over v) mets (errand_in the_request (byte ∷ []) cut v).commands → (whole : ℕ)
+      → (changes_in (take (suc whole) (turns_of (errand_in the_request (byte ∷ []) cut v) mets (session_over v))) ≡ []) ⊎ (changes_in (take (suc whole) (turns_of (errand_in the_request (byte ∷ []) cut v) mets (session_over v))) ≡ the_change ∷ [])
   put_begun None may hurt Passed said i mets v goes whole = by (turns_are the_put v hurt Passed (IsCutAt None) said i mets goes)
     where
       turns : List Turn
@@ -232,18 +232,18 @@ module _ (name : List ℕ) (byte : ℕ) where
           either : (changes_of the_put (reply_to the_put v met) ≡ []) ⊎ (changes_of the_put (reply_to the_put v met) ≡ the_change ∷ []) → (changes_in (take (suc whole) turns) ≡ []) ⊎ (changes_in (take (suc whole) turns) ≡ the_change ∷ [])
           either (inl none) = inl (first (turn_for the_put v met) is ∙ none)
           either (inr one) = inr (first (turn_for the_put v met) is ∙ one)
-  put_begun (Some (k, why)) may hurt Passed said i mets v goes whole = absurd may
+  put_begun (Some cutting) may hurt Passed said i mets v goes whole = absurd may
 
 -- ---- a list
 
 abbrev pub all_versions : Command
 all_versions = Word.List (Prefix [])
 
-list_through : (cut : Cut) → MayCut (Asks.One all_versions) cut → (mets : List Meeting) (v : Volume) → length mets ≡ length (errand_in (Asks.One all_versions) [] cut).commands
-    → said_in (turns_of (errand_in (Asks.One all_versions) [] cut) mets (session_over v)) ≡ listing (filter (λ e. fits (Prefix []) e.key.name) v.entries)
+list_through : (cut : Cut) → MayCut (Asks.One all_versions) cut → (mets : List Meeting) (v : Volume) → length mets ≡ length (errand_in (Asks.One all_versions) [] cut v).commands
+    → said_in (turns_of (errand_in (Asks.One all_versions) [] cut v) mets (session_over v)) ≡ listing (filter (λ e. fits (Prefix []) e.key.name) v.entries)
 list_through None may mets v through =
     ap said_in (answered_once all_versions v mets through).1.turns ∙ append-nil (listing (filter (λ e. fits (Prefix []) e.key.name) v.entries))
-list_through (Some (k, why)) may mets v through = absurd may
+list_through (Some cutting) may mets v through = absurd may
 
 -- ---- what a run leaves of what was kept
 

@@ -25,12 +25,12 @@ use Rattle.fsd_texts.specs.declared.fault.Fault.{Fault}
 use Rattle.fsd_texts.specs.declared.fault.Fault.TheVariants as Ends
 use Rattle.fsd_texts.specs.Text.{fault_text}
 use Rattle.fsd_runs.specs.declared.request.Request.{Request}
-use Rattle.fsd_runs.specs.declared.request.Request.TheVariants.{Put}
-use Rattle.fsd_runs.specs.Errands.{Cut, Turn}
+use Rattle.fsd_runs.specs.declared.request.Request.TheVariants.{Put, Restore}
+use Rattle.fsd_runs.specs.Errands.{ByFault, Cut, Turn}
 use Rattle.fsd_runs.specs.Leaves.{CutCause, IsBrokenOff, IsOutside, IsReplied, IsSoundAsSaid, IsSpent, IsUnderWay, IsUndone, IsUnsaid, LeavesBy, LeavesMounted, LeavesRoots, LeavesSaid, LeavesUnmounted, Left, LeftBefore, LeftByTurns, SaysFault}
 use Rattle.fsd_runs.proofs.LeaveLaws.{one_more}
 use Rattle.fsd_runs.specs.Sessions.{session_over}
-use Rattle.fsd_runs.specs.Runs.{Goes, IsCutAt, IsThrough, Course, errand_in, run_end, run_status, run_turns, said_in}
+use Rattle.fsd_runs.specs.Runs.{Goes, GoesSo, IsCutAt, IsThrough, Course, answered, errand_in, run_end, run_status, run_turns, said_in}
 use Rattle.volume_contract.specs.Mount.{IsSoundAt}
 use Rattle.volume_turns.specs.Status.{CountsNone}
 use Rattle.cfs_program.specs.Opening.{IsSoundDisk}
@@ -43,10 +43,11 @@ outside_on : (request : Request) (a b c : Report) (why : Fault) → CountsNone a
 outside_on request a b c (Ends.Device s) same out = record { rose = rose_on a.disk_faults b.disk_faults c.disk_faults same.disk out.rose; told = out.told }
 outside_on request a b c Ends.Memory same out = tt
 outside_on (Put name keep) a b c Ends.Input same out = rose_on a.input_faults b.input_faults c.input_faults same.input out
+outside_on Restore a b c Ends.Input same out = rose_on a.input_faults b.input_faults c.input_faults same.input out
 outside_on request a b c other same out = absurd out
 
 cause_on : (cut : Cut) (input rest : List ℕ) (a b c : Report) → CountsNone a b → CutCause cut input rest b c → CutCause cut input rest a c
-cause_on (Some (k, Ends.Input)) input rest a b c same cause = record { rose = rose_on a.input_faults b.input_faults c.input_faults same.input cause.rose; taken = cause.taken; all = cause.all; commands = cause.commands }
+cause_on (Some (ByFault k Ends.Input)) input rest a b c same cause = record { rose = rose_on a.input_faults b.input_faults c.input_faults same.input cause.rose; taken = cause.taken; all = cause.all; commands = cause.commands }
 cause_on cut input rest a b c same cause = tt
 
 -- An image is found as it was but worn, with its present window, and nothing is said.
@@ -190,7 +191,8 @@ module _ {D : Type 0} (M : Ghosts D) (request : Request) (input rest : List ℕ)
       may = m.run.may;
       before = m.run.before;
       mets = m.run.mets;
-      goes = subst (λ (base : List ℕ). Goes (in_runs (windows ++ m.next ∷ [])) (M.left_since c m.at) (IsCutAt m.run.cut) (errand_in request input m.run.cut) base m.from (session_over m.volume) m.run.mets (errand_in request input m.run.cut).commands) found.said m.run.goes;
+      goes = subst (λ (base : List ℕ). Goes (in_runs (windows ++ m.next ∷ [])) (M.left_since c m.at) (IsCutAt m.run.cut) (errand_in request input m.run.cut m.volume) base m.from (session_over m.volume) m.run.mets (errand_in request input m.run.cut m.volume).commands) found.said m.run.goes;
+      so = subst (λ (base : List ℕ). GoesSo request m.run.cut (M.left_since c m.at) base m.volume m.from (answered m.run.mets (session_over m.volume) (errand_in request input m.run.cut m.volume).commands)) found.said m.run.so;
     }
 
     replied_on : IsReplied l windows m.next h m.count turns (run_status m.run) (run_end m.run) (IsHeld M c) (M.now b) (M.now c) status → IsReplied l windows m.next h m.count turns (run_status m.run) (run_end m.run) (IsHeld M c) (M.now a) (M.now c) status

@@ -20,7 +20,7 @@ use Rattle.fsd_texts.specs.declared.line.Line.{Line}
 use Rattle.fsd_texts.specs.declared.line.Line.TheVariants as Lines
 use Rattle.fsd_texts.specs.Text.{fault_text, text}
 use Rattle.fsd_runs.specs.declared.request.Request.{Request}
-use Rattle.fsd_runs.specs.declared.request.Request.TheVariants.{NoCommand, BadField, Format, Put, One, Script, Generate, Drill}
+use Rattle.fsd_runs.specs.declared.request.Request.TheVariants.{NoCommand, BadField, Format, Put, One, Script, Generate, Dump, Restore, Drill}
 use Rattle.fsd_runs.specs.Errands.{IfMounts}
 use Rattle.fsd_runs.specs.Leaves.{NoneRose}
 use Rattle.volume_contract.specs.State.{Ages}
@@ -79,6 +79,8 @@ module _ {D : Type 0} (M : Ghosts D) (path : List ℕ) (a b : D) (line : Line) (
   ran_line (One command) is = absurd (cc is)
   ran_line Script is = absurd (cc is)
   ran_line (Generate seed count) is = absurd (cc is)
+  ran_line (Dump since) is = absurd (cc is)
+  ran_line Restore is = absurd (cc is)
   ran_line Drill is = absurd (cc is)
   ran_line request is = record {
     status = line_status result status;
@@ -166,11 +168,14 @@ if_mounts (Put name keep) P p = p
 if_mounts (One command) P p = p
 if_mounts Script P p = p
 if_mounts (Generate seed count) P p = p
+if_mounts (Dump since) P p = p
+if_mounts Restore P p = p
 if_mounts request P p = tt
 
 input_left : (request : Request) (old new : List ℕ) → new ≡ old → LeavesInput request old new
 input_left (Put name keep) old new same = tt
 input_left Script old new same = tt
+input_left Restore old new same = tt
 input_left request old new same = same
 
 memory_one : (request : Request) (input : List ℕ) (old new : Moment) (result : ℕ) → SaysNoReply old new result → SaysAlone request input old new result
@@ -185,12 +190,15 @@ memory_rest request old new still = tt
 input_spared : (request : Request) (old new : Report) → new.input_faults ≡ old.input_faults → SparesInput request old new
 input_spared (Put name keep) old new same = tt
 input_spared Script old new same = tt
+input_spared Restore old new same = tt
 input_spared request old new same = same
 
 syncs_none : (request : Request) (Honest : Type 0) (old new : Ledger) → new.syncs ≡ old.syncs → SyncsAtMost request Honest old new
 syncs_none (Put name keep) Honest old new same = omega (arith, same)
 syncs_none (One command) Honest old new same = omega (arith, same)
 syncs_none (Generate seed count) Honest old new same = omega (arith, same)
+syncs_none (Dump since) Honest old new same = omega (arith, same)
+syncs_none Restore Honest old new same = omega (arith, same)
 syncs_none Script Honest old new same = λ h. omega (arith, same)
 syncs_none request Honest old new same = same
 
@@ -292,6 +300,8 @@ module _ {D : Type 0} {M : Ghosts D} {path : List ℕ} {failed : Failed} {a b z 
   ran_unfound (One command) = ran_failed (One command) (four_one command) refl tt
   ran_unfound Script = ran_failed Script refl refl tt
   ran_unfound (Generate seed count) = ran_failed (Generate seed count) refl refl tt
+  ran_unfound (Dump since) = ran_failed (Dump since) refl refl tt
+  ran_unfound Restore = ran_failed Restore refl refl tt
   ran_unfound request = tt
 
 -- ---- a format

@@ -1,5 +1,5 @@
 -- What the program answers and leaves, by what its words ask for.
-use Rattle.std.specs.Prelude.{◌≡◌, ◌⊎◌, ◌≤◌, ◌+◌, ⊤, ℕ, Bool, true, false, List, [], ◌∷◌, ◌++◌, length, take, Option, Some, None, Result, Ok, Err, IsFalse, IsTrue}
+use Rattle.std.specs.Prelude.{◌≡◌, ◌⊎◌, ◌≤◌, ◌+◌, ⊤, ℕ, List, [], ◌∷◌, ◌++◌, length, take, Option, Some, None, Result, Ok, Err, IsFalse, IsTrue}
 use Rattle.volume_layout.specs.declared.layout.Layout.{Layout}
 use Rattle.volume_layout.specs.declared.fault.LayoutFault.{LayoutFault}
 use Rattle.volume_layout.specs.Layout.{plan}
@@ -24,7 +24,7 @@ use Rattle.cfs_program.specs.Formatting.{IsMadeBy, SaysFormat, SparesUnplanned, 
 use Rattle.volume_contract.specs.State.{Ages}
 use Rattle.scrub.specs.Telling.{AreOfPage, StandTwice}
 use Rattle.volume_turns.specs.Answering.{SaysOne}
-use Rattle.volume_turns.specs.Causes.{FailsInput, HasSpent, HasVolume, SaysCause, SaysFaultAt, SaysMade, SaysOfInput, is_of_fault, is_of_mounted}
+use Rattle.volume_turns.specs.Causes.{FailsInput, Front, Nothing, Parts, Replies, HasSpent, HasVolume, SaysCause, SaysFaultAt, SaysMade, SaysOfInput, is_of_fault, is_of_mounted}
 use Rattle.volume_turns.specs.Each.{SaysBadLine, SaysForced}
 use Rattle.volume_turns.specs.Healing.{IfScrub, is_of_answer}
 use Rattle.volume_turns.specs.Status.{CountsInput, CountsNone, is_unfailed, is_quiet}
@@ -72,8 +72,9 @@ asks_of (Format n t p kind) path = plan_asks (plan kind n t p) path
 asks_of Drill path = []
 asks_of request path = mount_asks path
 
--- A run of one command does one sync at most, and so does one that makes its commands up, a dump and a restore; a script over an honest machine
--- does at most one for each command that asks for a force, and one at its end; another request does none.
+-- A run of one command does one sync at most, and so does one that makes its commands up, a dump and a restore; a script
+-- over an honest machine does at most one for each command that asks for a force, and one at its end; another request
+-- does none.
 abbrev pub SyncsAtMost : Request → (Honest : Type 0) → (old new : Ledger) → Type 0
 SyncsAtMost (Put name keep) Honest old new = new.syncs ≤ old.syncs + 1
 SyncsAtMost (One command) Honest old new = new.syncs ≤ old.syncs + 1
@@ -148,10 +149,11 @@ SaysAnswer (Format n t p kind) place old new result = SaysFormat (plan kind n t 
 SaysAnswer Drill place old new result = SaysDrill old new result
 SaysAnswer request place old new result = ⊤
 
--- a script says replies before its last line
-abbrev pub is_script : Request → Bool
-is_script Script = true
-is_script request = false
+-- what is said before the last line: of a script replies, and of a dump some bytes of it
+abbrev pub front_of : Request → Front
+front_of Script = Replies
+front_of (Dump since) = Parts
+front_of request = Nothing
 
 -- the sectors that a call of a run may tell as lost
 abbrev pub RunMayLose : Request → Layout → (a b : ℕ) → Type 0
@@ -242,7 +244,7 @@ pub record Ran {D : Type 0} (M : Ghosts D) (request : Request) (path : List ℕ)
   pub rest : M.honest b → WritesAlone request (M.now a) (M.now b)
   pub healed : IsTrue (is_of_answer result) → M.honest b → IfScrubs request (HealsFound M a b)
   pub mounted : IsTrue (is_of_mounted result) → M.honest b → IfMounts request (AsFound HasVolume (M.now a))
-  pub refused : result ≡ 3 → M.honest b → AsFound (λ sectors at. SaysCause (is_script request) (RunMayLose request) sectors at (M.now b)) (M.now a)
+  pub refused : result ≡ 3 → M.honest b → AsFound (λ sectors at. SaysCause (front_of request) (RunMayLose request) sectors at (M.now b)) (M.now a)
   pub last : IsTrue (is_of_fault result) → M.honest b → IfMounts request (SaysFaultAt (M.report b).fault_place (M.now b) result)
   pub spent : result ≡ 9 → M.honest b → AsFound (HasSpent (made_for request)) (M.now a)
   pub all : result ≡ 0 → M.honest b → SaysToEnd request (M.left_since b (M.moment a)) (M.ledger a).input (M.now a).said (M.now b)

@@ -8,5 +8,6 @@ pub mod Spelled
 pub mod Common
 pub mod Fronts
 pub mod Places
+pub mod Parts
 pub mod Ends
 pub mod DumpExamples

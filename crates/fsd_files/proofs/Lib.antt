@@ -9,7 +9,7 @@ pub mod LeaderLaws
 pub mod ListingLaws
 pub mod MoveExamples
 pub mod MoveLaws
-mod LoadLaws
+pub mod LoadLaws
 pub mod ScrubLaws
 pub mod WaitExamples
 pub mod WaitLaws

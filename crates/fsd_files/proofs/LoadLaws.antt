@@ -1,10 +1,11 @@
--- Files are made of none by loading their versions in order.
-use Rattle.std.proofs.Common.{◌≡◌, Bool, true, false, ◌&&◌, List, [], ◌∷◌, ◌++◌, Ordering, refl, sym, ap, subst, ◌∙◌, append_assoc}
+-- Files are made of none by loading their versions in order; and each version is found by its key.
+use Rattle.std.proofs.Common.{◌≡◌, Bool, true, false, cond, ◌&&◌, Some, List, [], ◌∷◌, ◌++◌, Ordering, refl, sym, ap, subst, ◌∙◌, append_assoc}
 use Rattle.std.specs.Prelude.{T}
 use Rattle.std.specs.List.{fold, AllByRecursion}
 use Rattle.std.specs.declared.cmp.Ordering.TheVariants.{Less, Equal, Greater}
-use Rattle.std.specs.Ordering.{is_lt, ordering_reverse}
-use Rattle.std.specs.FinMap.{put, is_sorted}
+use Rattle.std.specs.Ordering.{is_eq, is_lt, ordering_reverse}
+use Rattle.std.specs.Cmp.{tied_itself}
+use Rattle.std.specs.FinMap.{find, put, is_sorted}
 use Rattle.std.specs.FinMap.Entries.{by_order, below_all}
 use Rattle.std.proofs.lemmas.Bool.{and_parts}
 use Rattle.std.proofs.lemmas.List.{append-nil}
@@ -61,3 +62,23 @@ loaded_behind front (e ∷ s) all sorted =
 
 pub loaded_again : (s : Files) → T (is_sorted key_cmp s) → after (loads_of s) ≡ s
 loaded_again s sorted = loaded_behind [] s tt (true_of (is_sorted key_cmp s) sorted)
+
+-- ---- each version is found by its key
+
+abbrev IsFoundIn : Files → Key × File → Type 0
+IsFoundIn s y = find key_cmp y.0 s ≡ Some y.1
+
+passed_over : (e : Key × File) (s rest : Files) → below_all key_cmp e.0 rest ≡ true → AllByRecursion (IsFoundIn s) rest → AllByRecursion (IsFoundIn (e ∷ s)) rest
+passed_over e s [] below found = tt
+passed_over e s (y ∷ rest) below found =
+    let parts = and_parts (is_lt (key_cmp e.0 y.0)) (below_all key_cmp e.0 rest) below in
+    (ap (λ (o : Ordering). cond (is_eq o) (Some e.1) (find key_cmp y.0 s)) (behind y.0 e parts.0) ∙ found.0, passed_over e s rest parts.1 found.1)
+
+each_found : (s : Files) → is_sorted key_cmp s ≡ true → AllByRecursion (IsFoundIn s) s
+each_found [] sorted = tt
+each_found (e ∷ s) sorted =
+    let parts = and_parts (below_all key_cmp e.0 s) (is_sorted key_cmp s) sorted in
+    (ap (λ (o : Ordering). cond (is_eq o) (Some e.1) (find key_cmp e.0 s)) (tied_itself keys_total e.0), passed_over e s s parts.0 (each_found s parts.1))
+
+pub found_there : (s : Files) → T (is_sorted key_cmp s) → AllByRecursion (IsFoundIn s) s
+found_there s sorted = each_found s (true_of (is_sorted key_cmp s) sorted)

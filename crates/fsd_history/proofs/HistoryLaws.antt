@@ -5,7 +5,6 @@ use Rattle.std.specs.List.{concat, fold}
 use Rattle.std.proofs.lemmas.List.{length-append, length-take-le, take_all}
 use Rattle.std.proofs.lemmas.List.Sums.{fold-append}
 use Rattle.std.proofs.Math.Seq.{take-append-add, take-nil}
-use Rattle.fsd_bytes.specs.declared.key.Serial.{Serial}
 use Rattle.fsd_bytes.specs.Names.{is_between}
 use Rattle.volume_layout.specs.declared.kind.Kind.{Kind}
 use Rattle.volume_layout.specs.declared.layout.Layout.{Layout}
@@ -36,16 +35,16 @@ use Rattle.fsd_texts.specs.declared.script_command.ScriptCommand.{ScriptCommand}
 use Rattle.fsd_runs.specs.declared.request.Request.{Request}
 use Rattle.fsd_runs.specs.declared.request.Request.TheVariants as Asks
 use Rattle.fsd_runs.specs.Dumps.{dump_of}
-use Rattle.fsd_runs.specs.Errands.{Answered, ByFault, ByRefusal, BySector, Cut, Damages, Errand, IfMounts, Turn, blank, fault_status}
+use Rattle.fsd_runs.specs.Errands.{Answered, BySector, Cut, Damages, Errand, IfMounts, Turn, blank, fault_status}
 use Rattle.fsd_runs.specs.Leaves.{IsBrokenOff, IsReplied, IsSoundAsSaid, IsSpent, IsUnderWay, IsUndone, IsUnsaid, Left, LeftBefore, LeftByTurns, LeavesMounted, LeavesUnmounted, SaysNext, Unbegun, Whatever}
-use Rattle.fsd_runs.specs.Runs.{Goes, GoesSo, IsCutAt, IsDumpedSo, IsThrough, Starts, StoodAt, answered, changes_in, errand_in, run_end, run_status, run_turns}
+use Rattle.fsd_runs.specs.Runs.{Goes, GoesSo, IsCutAt, IsThrough, Starts, StoodAt, answered, changes_in, errand_in, run_end, run_status, run_turns}
 use Rattle.fsd_runs.specs.Sessions.{Meeting, answer_in, session_over}
 use Rattle.fsd_runs.proofs.LeaveLaws.{replied_held}
 use Rattle.cfs_program.specs.Formatting.{HoldsVolume, IsMadeBy}
 use Rattle.cfs_program.specs.Opening.{IsSoundDisk}
 use Rattle.cfs_program.specs.Program.{Ran, input_for}
 use Rattle.cfs_program.proofs.OpeningLaws.{said_disk}
-use Rattle.fsd_history.specs.History.{AreLives, GoesOnAt, HasShown, IsDone, IsFresh, IsLeft, IsLife, IsOver, Life, Meets, Mounts, Plays, Tells, TellsSo}
+use Rattle.fsd_history.specs.History.{AreLives, GoesOnAt, HasShown, IsDone, IsFresh, IsLeft, IsLife, IsOver, Life, Meets, Mounts, Plays, PlaysSo, Tells, TellsSo}
 
 -- ---- prefixes
 
@@ -122,24 +121,11 @@ goes_meet hurt Past t Last e said i s (x ∷ xs) [] goes = absurd goes
 goes_meet hurt Past t Last e said i s (x ∷ xs) (command ∷ commands) (j, at, goes) =
     (j, stood_there Past t said j at.exit, at.may, goes_meet hurt Past t Last e (said ++ e.says (answer_in x s command).0) j (answer_in x s command).1 xs commands goes)
 
--- what was said by the time of an image is left out
-stood_on : (Past : ℕ → Moment → Type 0) (t : ℕ) (said other : List ℕ) (i : Image) → StoodAt (Past t) said i → StoodAt (λ c. OfPast Past c.image) other i
-stood_on Past t said other i stood = record { moment = record stood.moment { said = other }; passed = (t, stood.moment, stood.passed, refl); image = stood.image; so_far = refl }
-
-dump_so : (since : Serial) (cut : Cut) (Past : ℕ → Moment → Type 0) (t : ℕ) (base other : List ℕ) (v : Volume) (i : Image) → IsDumpedSo since cut (Past t) base v i → IsDumpedSo since cut (λ c. OfPast Past c.image) other v i
-dump_so since None Past t base other v i so = so
-dump_so since (Some (Damages found)) Past t base other v i (some, (j, stood, picks)) = (some, (j, stood_on Past t base other j stood, picks))
-dump_so since (Some (BySector k s)) Past t base other v i (whole, (j, stood, spoilt)) =
-    let front = concat (take (suc k) (dump_of since v)) in
-    (whole, (j, stood_on Past t (base ++ front) (other ++ front) j stood, spoilt))
-dump_so since (Some (ByFault k why)) Past t base other v i so = absurd so
-dump_so since (Some (ByRefusal k)) Past t base other v i so = absurd so
-
-goes_so : (request : Request) (cut : Cut) (Past : ℕ → Moment → Type 0) (t : ℕ) (base other : List ℕ) (v : Volume) (i : Image) (done : List Answered) → GoesSo request cut (Past t) base v i done
-    → GoesSo request cut (λ c. OfPast Past c.image) other v i done
-goes_so (Asks.Dump since) cut Past t base other v i done so = dump_so since cut Past t base other v i so
-goes_so Asks.Restore cut Past t base other v i done so = so
-goes_so request cut Past t base other v i done so = tt
+plays_so : (request : Request) (cut : Cut) (Past : ℕ → Moment → Type 0) (t : ℕ) (base : List ℕ) (v : Volume) (i : Image) (done : List Answered) → GoesSo request cut (Past t) base v i done → PlaysSo (OfPast Past) request cut v i done
+plays_so Asks.Restore cut Past t base v i done so = so
+plays_so (Asks.Dump since) (Some (Damages found)) Past t base v i done (some, (j, stood, picks)) = (some, (j, stood_there Past t base j stood, picks))
+plays_so (Asks.Dump since) (Some (BySector k s)) Past t base v i done (whole, (j, stood, spoilt)) = (whole, (j, stood_there Past t (base ++ concat (take (suc k) (dump_of since v))) j stood, spoilt))
+plays_so request cut Past t base v i done so = tt
 
 starts_fresh : (l : Layout) (windows : List WeakRun) (h : List Change) (v : Volume) (i : Image) → Starts l windows h v i → IsFresh i (after h) v
 starts_fresh l windows h v i s = record {
@@ -208,7 +194,7 @@ module _ {D : Type 0} (M : Ghosts D) (x : Life D) (h : List Change) (f : ℕ) (l
       may = m.run.may;
       mets = m.run.mets;
       meets = goes_meet (in_runs (windows ++ m.next ∷ [])) (M.left_since x.to) m.at (IsCutAt m.run.cut) (errand_in x.request input m.run.cut m.volume) (M.now x.from).said m.from (session_over m.volume) m.run.mets (errand_in x.request input m.run.cut m.volume).commands m.run.goes;
-      so = goes_so x.request m.run.cut (M.left_since x.to) m.at (M.now x.from).said [] m.volume m.from (answered m.run.mets (session_over m.volume) (errand_in x.request input m.run.cut m.volume).commands) m.run.so;
+      so = plays_so x.request m.run.cut (M.left_since x.to) m.at (M.now x.from).said m.volume m.from (answered m.run.mets (session_over m.volume) (errand_in x.request input m.run.cut m.volume).commands) m.run.so;
     }
 
     ends_settled : (now : Windows) → now ≡ record { present = Some m.next; next = None } → EndIn now (windows ++ m.next ∷ [])

@@ -1,3 +1,4 @@
+mod DumpLaws
 pub mod HistoryLaws
 mod TextExamples
 pub mod WordLaws

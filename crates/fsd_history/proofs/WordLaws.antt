@@ -1,20 +1,17 @@
--- What puts, gets, lists and dumps say and do, in words of files.
-use Rattle.std.proofs.Common.{◌≡◌, ◌⊎◌, inl, inr, ℕ, zero, suc, Bool, true, false, List, [], ◌∷◌, ◌++◌, length, map, take, filter, Option, Some, None, refl, sym, ap, subst, ◌∙◌, arith}
+-- What puts, gets and lists say and do, in words of files; and histories of these, of dumps and of restores.
+use Rattle.std.proofs.Common.{◌≡◌, ◌⊎◌, inl, inr, ℕ, zero, suc, Bool, true, false, List, [], ◌∷◌, ◌++◌, length, take, filter, Option, Some, None, refl, sym, ap, subst, ◌∙◌, arith}
 use Rattle.std.specs.Prelude.{nat_lt, if◌then◌else◌}
-use Rattle.std.specs.List.{AllByRecursion, fold}
+use Rattle.std.specs.List.{fold}
 use Rattle.std.specs.FinMap.{find}
 use Rattle.std.proofs.lemmas.List.{append-nil, take_all}
 use Rattle.std.proofs.Math.Seq.{take-nil}
 use Rattle.fsd_bytes.specs.declared.key.Key.{Key}
-use Rattle.fsd_bytes.specs.declared.key.Serial.{Serial}
 use Rattle.fsd_bytes.specs.declared.pattern.Pattern.{Pattern}
 use Rattle.fsd_bytes.specs.declared.pattern.Pattern.TheVariants.{Prefix}
 use Rattle.fsd_bytes.specs.Keys.{fits, key_cmp}
 use Rattle.sector_disk.specs.declared.machine.Machine.{Ghosts}
 use Rattle.sector_disk.specs.Machine.{Moment}
-use Rattle.fsd_files.proofs.EachLaws.{each_taken}
 use Rattle.fsd_files.specs.Answers.{got}
-use Rattle.fsd_files.specs.Desk.{Session}
 use Rattle.fsd_files.specs.Disk.{Image}
 use Rattle.fsd_files.specs.Files.{Change, File, Files, step}
 use Rattle.fsd_files.specs.declared.reply.Reply.{Reply}
@@ -27,13 +24,13 @@ use Rattle.fsd_texts.specs.Script.{max_input}
 use Rattle.fsd_runs.specs.declared.request.Request.{Request}
 use Rattle.fsd_runs.specs.declared.request.Request.TheVariants as Asks
 use Rattle.fsd_runs.specs.Commands.{changes_of, reply_alone, reply_status}
-use Rattle.fsd_runs.specs.Dumps.{dump_of}
-use Rattle.fsd_runs.specs.Errands.{Answered, ByFault, ByRefusal, BySector, Cut, Damages, Errand, MayCut, Turn, blank, damage_turn, errand_alone, nothing_but, said_turn}
-use Rattle.fsd_runs.specs.Runs.{answered, changes_in, errand_in, said_in, turns_of, turns_with}
+use Rattle.fsd_runs.specs.Errands.{Cut, Errand, MayCut, Turn, blank, errand_alone, nothing_but}
+use Rattle.fsd_runs.specs.Runs.{answered, changes_in, errand_in, said_in, turns_of}
 use Rattle.fsd_runs.specs.Sessions.{Meeting, session_over}
 use Rattle.cfs_program.specs.Drill.{list_text}
 use Rattle.cfs_program.specs.Program.{input_for}
 use Rattle.cfs_program.proofs.LifeLaws.{IsPutReply, all_versions, answered_once, list_is, listing, put_reply, reply_to, turn_for}
+use Rattle.fsd_history.proofs.DumpLaws.{dump_ends, dump_stops, restore_ends, restore_stops}
 use Rattle.fsd_history.specs.History.{Ends, EndsPlainly, HasShown, Life, Meets, PlainlySo, Plays, SaysVersion, Stops, StopsPlainly, Tells, TellsPlainly, TellsSo, turns_in}
 
 -- ---- one command
@@ -239,59 +236,7 @@ module _ {D : Type 0} (M : Ghosts D) (name : List ℕ) (keep : Option ℕ) where
       by (inl none) = inl (subst (λ (s : Files). Says y s) none says)
       by (inr one) = inr (subst (λ (s : Files). Says y s) one says)
 
--- ---- a dump
-
--- none of these turns changes something
-abbrev ChangeNone : List Turn → Type 0
-ChangeNone turns = AllByRecursion (λ t. t.changes ≡ []) turns
-
-none_changed : (turns : List Turn) → ChangeNone turns → changes_in turns ≡ []
-none_changed [] each = refl
-none_changed (t ∷ turns) each = ap (λ (cs : List Change). cs ++ changes_in turns) each.0 ∙ none_changed turns each.1
-
-each_changes_none : {X : Type 0} (f : X → Turn) → ((x : X) → (f x).changes ≡ []) → (xs : List X) → ChangeNone (map f xs)
-each_changes_none f none [] = tt
-each_changes_none f none (x ∷ xs) = (none x, each_changes_none f none xs)
-
-answered_none : (mets : List Meeting) (s : Session) → answered mets s [] ≡ []
-answered_none [] s = refl
-answered_none (x ∷ mets) s = refl
-
-module _ (since : Serial) (v : Volume) where
-  abbrev dump_in : Cut → Errand
-  dump_in cut = errand_in (Asks.Dump since) [] cut v
-
-  none_answered : (cut : Cut) → MayCut (Asks.Dump since) cut → (mets : List Meeting) → answered mets (session_over v) (dump_in cut).commands ≡ []
-  none_answered None may mets = answered_none mets (session_over v)
-  none_answered (Some (Damages found)) may mets = answered_none mets (session_over v)
-  none_answered (Some (BySector k t)) may mets = answered_none mets (session_over v)
-  none_answered (Some (ByFault k why)) may mets = absurd may
-  none_answered (Some (ByRefusal k)) may mets = absurd may
-
-  dumps_none : (cut : Cut) → MayCut (Asks.Dump since) cut → ChangeNone (turns_with (dump_in cut) [])
-  dumps_none None may = each_changes_none said_turn (λ x. refl) (dump_of since v)
-  dumps_none (Some (Damages found)) may = each_changes_none damage_turn (λ x. refl) found
-  dumps_none (Some (BySector k t)) may = each_taken (λ t. t.changes ≡ []) (suc k) (map said_turn (dump_of since v)) (each_changes_none said_turn (λ x. refl) (dump_of since v))
-  dumps_none (Some (ByFault k why)) may = absurd may
-  dumps_none (Some (ByRefusal k)) may = absurd may
-
-  dump_changes_none : (cut : Cut) → MayCut (Asks.Dump since) cut → (mets : List Meeting) → ChangeNone (turns_of (dump_in cut) mets (session_over v))
-  dump_changes_none cut may mets = subst (λ (done : List Answered). ChangeNone (turns_with (dump_in cut) done)) (sym (none_answered cut may mets)) (dumps_none cut may)
-
-dump_ends : (Shown : Image → Type 0) (since : Serial) (said : List ℕ) (s next : Files) (status : ℕ) → Ends Shown (Asks.Dump since) [] s said status next → next ≡ s
-dump_ends Shown since said s next status x =
-    let p = x.plays in
-    x.files ∙ ap (fold step s) (none_changed (turns_in p) (dump_changes_none since p.volume p.cut p.may p.mets))
-
-dump_stops : (Shown : Image → Type 0) (since : Serial) (said : List ℕ) (s next : Files) → Stops Shown (Asks.Dump since) [] s said next → next ≡ s
-dump_stops Shown since said s next (inl (fault, is)) = is
-dump_stops Shown since said s next (inr x) =
-    let p = x.plays in
-    let begun = take (suc x.whole) (turns_in p) in
-    let none = none_changed begun (each_taken (λ t. t.changes ≡ []) (suc x.whole) (turns_in p) (dump_changes_none since p.volume p.cut p.may p.mets)) in
-    x.files ∙ ap (λ (cs : List Change). fold step s (take x.found cs)) none ∙ ap (fold step s) (take-nil x.found)
-
--- ---- histories of puts, gets, lists and dumps
+-- ---- histories of puts, gets, lists, dumps and restores
 
 module _ (command : Command) (still : (reply : Reply) → changes_of command reply ≡ []) (input : List ℕ) where
   still_begun : (Shown : Image → Type 0) (i : Image) (cut : Cut) → MayCut (Asks.One command) cut → (mets : List Meeting) (v : Volume) → Meets Shown i (session_over v) mets (errand_in (Asks.One command) input cut v).commands
@@ -320,6 +265,7 @@ ends_plainly Shown (Asks.Put name keep) input said s next status x =
 ends_plainly Shown (Asks.One (Word.Get key)) input said s next status x = get_says Shown key [] said s next status x
 ends_plainly Shown (Asks.One (Word.List pattern)) input said s next status x = pattern_says Shown pattern [] said s next status x
 ends_plainly Shown (Asks.Dump since) input said s next status x = dump_ends Shown since said s next status x
+ends_plainly Shown Asks.Restore input said s next status x = restore_ends Shown input said s next status x
 ends_plainly Shown request input said s next status x = tt
 
 stops_plainly : (Shown : Image → Type 0) (request : Request) (input said : List ℕ) (s next : Files) → Stops Shown request (input_for request input) s said next → StopsPlainly request input s next
@@ -327,6 +273,7 @@ stops_plainly Shown (Asks.Put name keep) input said s next x = put_stops name ke
 stops_plainly Shown (Asks.One (Word.Get key)) input said s next x = still_stops (Word.Get key) (λ reply. refl) [] Shown said s next x
 stops_plainly Shown (Asks.One (Word.List pattern)) input said s next x = still_stops (Word.List pattern) (λ reply. refl) [] Shown said s next x
 stops_plainly Shown (Asks.Dump since) input said s next x = dump_stops Shown since said s next x
+stops_plainly Shown Asks.Restore input said s next x = restore_stops Shown input said s next x
 stops_plainly Shown request input said s next x = tt
 
 module _ {D : Type 0} (M : Ghosts D) where

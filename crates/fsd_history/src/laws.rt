@@ -1,18 +1,19 @@
 //! Laws over the definitions: the functions do nothing, the contract of each is a law.
-ghost use Rattle.std.specs.Prelude.{◌≡◌, ◌⊎◌, ◌++◌, ◌∷◌, ℕ, List, [], Option, None, Some};
+ghost use Rattle.std.specs.Prelude.{◌≡◌, ◌⊎◌, ◌++◌, ◌∷◌, ℕ, List, [], Option, None, Some, T};
 ghost use Rattle.sector_disk.specs.Calls.{IsHeld};
 ghost use Rattle.sector_disk.specs.Machine.{IsSynced, Moment};
 ghost use Rattle.volume_layout.specs.declared.kind.Kind.{Kind};
-ghost use Rattle.std.specs.FinMap.{find};
+ghost use Rattle.std.specs.FinMap.{find, is_sorted};
 ghost use Rattle.fsd_bytes.specs.Keys.{key_cmp};
 ghost use Rattle.fsd_bytes.specs.declared.key.Key.{Key};
+ghost use Rattle.fsd_bytes.specs.declared.key.Serial.{Serial};
 ghost use Rattle.fsd_bytes.specs.declared.pattern.Pattern.TheVariants.{Prefix};
 ghost use Rattle.fsd_files.specs.Files.{Change, Files, step};
 ghost use Rattle.fsd_texts.specs.declared.command.Command.TheVariants.{Get, List as ListAll};
-ghost use Rattle.fsd_runs.specs.declared.request.Request.TheVariants.{Format, One, Put};
+ghost use Rattle.fsd_runs.specs.declared.request.Request.TheVariants.{Dump, Format, One, Put, Restore};
 ghost use Rattle.cfs_program.specs.Drill.{list_text};
 ghost use Rattle.cfs_program.specs.Program.{Ran, input_for};
-ghost use Rattle.fsd_history.specs.History.{AreLives, Ends, HasShown, IsLeft, Life, SaysVersion, Stops, Tells, TellsPlainly};
+ghost use Rattle.fsd_history.specs.History.{AreLives, Ends, HasShown, IsFull, IsLeft, Life, SaysVersion, Stops, Tells, TellsPlainly};
 
 use sector_disk::Machine;
 
@@ -24,7 +25,8 @@ pub fn runs_tell_files<M: Machine>()
         AreLives M.Machine (IsLeft M.Machine left) lives → Tells M.Machine [] lives }
 {}
 
-/// So of puts, gets and lists, and of dumps, which leave the files, whatever other runs are between, in fewer words.
+/// So of puts, gets and lists, of dumps, which leave the files, and of restores, which load some first versions of a
+/// dump, and all where they end with 0; whatever other runs are between, in fewer words.
 pub fn puts_gets_and_lists_tell_files<M: Machine>()
     ensures { (s : Files) (lives : List (Life M)) → Tells M.Machine s lives → TellsPlainly M.Machine s lives }
 {}
@@ -52,6 +54,14 @@ pub fn puts_are_found_whole_or_not<M: Machine>()
         next ≡ step s (Change.Put name keep input) }
     ensures stopped { (m : M) (name : List ℕ) (keep : Option ℕ) (input said : List ℕ) (s next : Files) → Stops (HasShown M.Machine m) (Put name keep) input s said next →
         (next ≡ s) ⊎ (next ≡ step s (Change.Put name keep input)) }
+{}
+
+/// A dump of all versions that has ended with 0, restored where there are no files to an end with 0, gives the files that
+/// it was made of.
+pub fn full_dumps_restore_the_files<M: Machine>()
+    ensures { (m other : M) (since : Serial) (said more : List ℕ) (s between next : Files) → T (is_sorted key_cmp s) →
+        (x : Ends (HasShown M.Machine m) (Dump since) [] s said 0 between) → IsFull since x.plays.volume →
+        Ends (HasShown M.Machine other) Restore said [] more 0 next → next ≡ s }
 {}
 
 /// A worked history: a put that was stopped at any moment, and a list that ended, over a volume that was formatted.

@@ -24,10 +24,10 @@ use Rattle.scrub.specs.Looking.{Adds, AreDamaged, FindsIn}
 use Rattle.fsd_files.proofs.LeaderLaws.{all_keyed}
 use Rattle.scrub.proofs.PlaceLaws.{behind_there}
 
-abbrev Any : ℕ → Type 0
+abbrev pub Any : ℕ → Type 0
 Any s = Unit {0}
 
-anything : (xs : List (Key × ℕ)) → AllByRecursion (λ x. Any x.1) xs
+pub anything : (xs : List (Key × ℕ)) → AllByRecursion (λ x. Any x.1) xs
 anything [] = tt
 anything (x ∷ xs) = (tt, anything xs)
 

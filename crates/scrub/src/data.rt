@@ -60,8 +60,9 @@ fn look_at<M: Machine, V: Files<M>>(
     }
 }
 
-// Looks at the data of a version.
-fn look_through<M: Machine, V: Files<M>>(
+/// Looks at the data of a version, and puts what is damaged behind what was found before, in order. Where it is refused,
+/// what it has found up to there is put.
+pub fn look_through<M: Machine, V: Files<M>>(
     v: &mut V,
     m: &mut M,
     e: &Entry,

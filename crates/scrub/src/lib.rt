@@ -7,5 +7,6 @@ mod leaders;
 mod walk;
 mod whole;
 
+pub use data::look_through;
 pub use walk::next_one;
 pub use whole::{Healed, scrub};

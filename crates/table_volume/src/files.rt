@@ -46,6 +46,12 @@ impl<M: Machine> Files<M> for Volume {
         self.entered(m, name, keep, draft)
     }
 
+    fn load(&mut self, m: &mut M, key: &Key, keep: u32, bytes: &[u8]) -> Result<(), Refusal> {
+        self.may_put(Some(keep), bytes.len())?;
+        let draft = self.prepared(m, &key.name, bytes)?;
+        self.loaded(m, key, keep, draft)
+    }
+
     fn delete(&mut self, m: &mut M, key: &Key) -> Result<(), Refusal> {
         self.may_change()?;
         self.force_first(m)?;

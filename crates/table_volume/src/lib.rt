@@ -10,6 +10,7 @@ mod forcing;
 mod freeing;
 mod holding;
 mod keeping;
+mod loading;
 mod making;
 mod mounting;
 mod moving;

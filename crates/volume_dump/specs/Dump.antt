@@ -1,5 +1,5 @@
 -- What a dump says of a volume, and why none is said.
-use Rattle.std.specs.Prelude.{◌≡◌, ◌⊎◌, ⊤, ℕ, suc, Bool, true, false, List, [], ◌∷◌, ◌++◌, length, take, IsSome, IsFalse, IfErr, Result, Ok, Err, Option, Some, None, ◌==◌, slice_get, IsTrue}
+use Rattle.std.specs.Prelude.{◌≡◌, ◌⊎◌, ⊤, ℕ, suc, Bool, true, false, List, [], ◌∷◌, ◌++◌, length, take, IsSome, IsFalse, Result, Ok, Err, Option, None, ◌==◌, slice_get, IsTrue}
 use Rattle.std.specs.List.{concat}
 use Rattle.volume_layout.specs.declared.layout.Layout.{Layout}
 use Rattle.volume_layout.specs.Layout.{is_data}
@@ -10,7 +10,7 @@ use Rattle.fsd_bytes.specs.declared.refusal.Refusal.TheVariants as Why
 use Rattle.sector_disk.specs.declared.machine.Machine.{Ghosts}
 use Rattle.sector_disk.specs.declared.sector.Sector.TheVariants.{Damaged}
 use Rattle.sector_disk.specs.Calls.{Counts, DiskFaults, Since}
-use Rattle.sector_disk.specs.Image.{IsWorn, open_damage, sector_at}
+use Rattle.sector_disk.specs.Image.{sector_at}
 use Rattle.sector_disk.specs.Machine.{LeavesOnly, Moment, Trusts, Utters}
 use Rattle.fsd_log.specs.Scan.{Placed}
 use Rattle.fsd_files.specs.Disk.{Image}
@@ -38,23 +38,27 @@ RefusesSo s Why.Memory = ⊥
 RefusesSo s (Why.Damaged t) = ⊥
 RefusesSo s why = Comes (dump_steps s) why
 
-abbrev pub FollowsDump : State → Result ℕ DumpFault → Type 0
-FollowsDump s (Ok count) = Through (dump_steps s)
+abbrev pub FollowsDump : {T : Type 0} → State → Result T DumpFault → Type 0
+FollowsDump s (Ok x) = Through (dump_steps s)
 FollowsDump s (Err (Refused why)) = RefusesSo s why
 FollowsDump s (Err other) = Through (down s ∷ [])
 
 -- the place of the call of the disk that failed, where the fault tells one
-abbrev pub device_in_dump : Result ℕ DumpFault → Option ℕ
+abbrev pub device_in_dump : {T : Type 0} → Result T DumpFault → Option ℕ
 device_in_dump (Err (Refused why)) = device_of why
 device_in_dump other = None
 
-abbrev pub is_unsaid_dump : Result ℕ DumpFault → Bool
+abbrev pub is_unsaid_dump : {T : Type 0} → Result T DumpFault → Bool
 is_unsaid_dump (Err Output) = true
 is_unsaid_dump other = false
 
 -- some bytes are said, and the sectors are worn
 abbrev pub SaysSome : Moment → Moment → Type 0
 SaysSome old left = (bytes : List ℕ) × Utters bytes old left
+
+-- the one text begins with the other
+abbrev pub IsBegun : List ℕ → List ℕ → Type 0
+IsBegun front whole = (more : List ℕ) × (whole ≡ front ++ more)
 
 -- A call that reads the disk and says, by the place of the fault of the disk that it tells, and by whether it tells one of
 -- the output; of which a stop leaves this.
@@ -68,9 +72,12 @@ pub record ReadsAndSays {D : Type 0} (M : Ghosts D) (fault : Option ℕ) (unsaid
   pub exit : M.honest new → R (M.now old) (M.now new)
   pub since : M.honest new → Since M old new
   pub any_moment : M.honest new → LeavesOnly M.moment M.left_since old new (R (M.now old))
+  -- where the output hasn't failed, what was said before, and at each moment, is a beginning of what is said at the exit
+  pub begun : IsFalse unsaid → M.honest new → IsBegun (M.now old).said (M.now new).said
+  pub said_first : IsFalse unsaid → M.honest new → LeavesOnly M.moment M.left_since old new (λ left. IsBegun left.said (M.now new).said)
 
 -- What it tells of any image, by the layout of its volume alone.
-abbrev pub TellsDump : Layout → Image → Result ℕ DumpFault → Type 0
+abbrev pub TellsDump : {T : Type 0} → Layout → Image → Result T DumpFault → Type 0
 TellsDump l i (Err (Refused why)) = TellsOn l i why
 TellsDump l i (Err (Found found)) = IsFalse (length found.items == 0) × AreDamaged l i found.items
 TellsDump l i (Err (Cut s)) = IsTrue (is_data l s) × (sector_at i s ≡ Damaged)

@@ -1,1 +1,4 @@
 pub mod Dump
+pub mod Told
+pub mod Surveying
+pub mod Saying

@@ -1,4 +1,6 @@
 //! Why a dump is not said, or not to its end.
+ghost use Rattle.std.specs.Prelude.{◌≡◌};
+ghost use Rattle.volume_dump.specs.Told.{told_as};
 
 use fsd_bytes::{Key, Refusal};
 use thiserror::Error;
@@ -22,4 +24,15 @@ pub enum DumpFault {
     /// Memory was refused.
     #[error("memory was refused")]
     Memory,
+}
+
+/// What a refusal is told as.
+pub(crate) fn fault_of(why: Refusal) -> DumpFault
+    ensures { result ≡ told_as why }
+{
+    match why {
+        Refusal::Memory => DumpFault::Memory,
+        Refusal::Damaged(s) => DumpFault::Cut(s),
+        other => DumpFault::Refused(other),
+    }
 }

@@ -2,5 +2,10 @@
 #![tactic(auto)]
 
 mod fault;
+mod saying;
+mod survey;
+mod whole;
 
+pub use dump_text::{DumpRead, Item, read_dump};
 pub use fault::DumpFault;
+pub use whole::dump;

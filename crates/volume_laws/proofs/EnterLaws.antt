@@ -21,7 +21,7 @@ use Rattle.fsd_files.specs.Disk.{Sectors, Touches}
 use Rattle.fsd_files.specs.Files.{Change, new_key}
 use Rattle.fsd_files.specs.Pieces.{enter_outcome, enter_unless, undrafted}
 use Rattle.fsd_files.specs.declared.reply.Reply.TheVariants.{Made, Refused}
-use Rattle.fsd_files.specs.Volume.{Volume, forced_if, pages_free}
+use Rattle.fsd_files.specs.Volume.{Volume, forced_if}
 use Rattle.fsd_sound.specs.Mounted.{Mounted, forces_by_itself}
 use Rattle.fsd_sound.specs.Writes.{force_writes}
 use Rattle.version_data.specs.Writing.{WritesIn}

@@ -42,6 +42,8 @@ pub mod KeptLaws
 pub mod LeaderWriteLaws
 pub mod LeavingLaws
 pub mod ListLaws
+pub mod LoadLaws
+pub mod LoadedLaws
 pub mod LogLaws
 pub mod LoggedLaws
 pub mod MadeLaws

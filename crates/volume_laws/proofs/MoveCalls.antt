@@ -11,12 +11,12 @@ use Rattle.group_commit.specs.contracts.newest.NewestPageSource.TheImpl as by_lo
 use Rattle.log_thirds.specs.LogValue.{LogValue}
 use Rattle.page_cache.specs.Cache.{CacheValue}
 use Rattle.version_table.specs.declared.oldest.Leaving.{Leaving}
-use Rattle.volume_contract.specs.Order.{Comes, Follows, Force, by_itself}
+use Rattle.volume_contract.specs.Order.{Asks, Comes, Follows, Force, by_itself}
 use Rattle.volume_contract.specs.State.{State, forces_first}
 use Rattle.cached_table.specs.Entering.{AreInTurn}
 use Rattle.cached_table.specs.Moving.{NoneMoves}
 use Rattle.volume_laws.specs.Ending.{IsEdited, moving_steps}
-use Rattle.volume_laws.specs.Entered.{entering_steps}
+use Rattle.volume_laws.specs.Entered.{entering_asks, entering_steps, making_look}
 use Rattle.volume_laws.specs.State.{state}
 use Rattle.volume_laws.specs.Volume.{IsWholeVolume, VolumeValue}
 use Rattle.volume_laws.proofs.EnteredCalls.{free_told}
@@ -24,14 +24,15 @@ use Rattle.volume_laws.proofs.MakingLaws.{refuses_comes, whole_going, with_if}
 
 -- ---- the order of refusals
 
--- behind a look-up that has found the version
-moving_comes : (s : State) (why : Refusal) → Comes (entering_steps s) why → Comes (moving_steps s) why
-moving_comes s why (inl look) = inl look
-moving_comes s why (inr later) = inr (tt, inr later)
+-- where the look-up may show something more
+pub asked_follows : {T : Type 0} (asked : Refusal) (s : State) (r : Result T Refusal) → Follows (entering_steps s) r → Follows (making_look (Asks asked ∷ entering_asks) s) r
+asked_follows asked s (Ok x) through = (tt, (tt, through.1))
+asked_follows asked s (Err why) (inl look) = inl look
+asked_follows asked s (Err why) (inr later) = inr (tt, inr later)
 
+-- behind a look-up that has found the version
 pub moving_follows : {T : Type 0} (s : State) (r : Result T Refusal) → Follows (entering_steps s) r → Follows (moving_steps s) r
-moving_follows s (Ok x) through = (tt, (tt, through.1))
-moving_follows s (Err why) comes = moving_comes s why comes
+moving_follows s r follows = asked_follows Why.NoSuch s r follows
 
 -- what comes behind it does not refuse the version as none
 pub moves_some : {T : Type 0} (s : State) (r : Result T Refusal) → Follows (entering_steps s) r → r ≡ Err Why.NoSuch → ⊥
@@ -58,9 +59,9 @@ force_some s why comes same = by (forces_first s) (subst (Comes (by_itself s ∷
     by b (inr more) = absurd more.1
 
 -- where a fault that is handed on is another
-pub other_fault : {T A : Type 0} (r : Result T Refusal) (why : Refusal) → IsErrAnd r (λ told. told ≡ why) → (why ≡ Why.NoSuch → ⊥) → r ≡ Err Why.NoSuch → A
+pub other_fault : {T A : Type 0} {other : Refusal} (r : Result T Refusal) (why : Refusal) → IsErrAnd r (λ told. told ≡ why) → (why ≡ other → ⊥) → r ≡ Err other → A
 other_fault (Ok x) why told some is = absurd (cc is)
-other_fault (Err x) why told some is = let same : x ≡ Why.NoSuch = cc is in absurd (some (sym told ∙ same))
+other_fault {other = other} (Err x) why told some is = let same : x ≡ other = cc is in absurd (some (sym told ∙ same))
 
 module _ (v w : VolumeValue) (is : v ≡ w) where
   pub move_comes : {D : Type 0} (M : MachineGhosts D) (m m' : D) (log : LogValue) (key : Key) (name : List ℕ) (c : CacheValue) (flags : List Bool) (why : Refusal) → NoneMoves M by_log.ghosts log v.map v.shadow key name m m' v.cache c v.free_pages flags why

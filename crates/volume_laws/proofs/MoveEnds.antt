@@ -1,6 +1,6 @@
 -- How a volume that stands answers where a version was to be moved in its table.
-use Rattle.std.proofs.Common.{◌≡◌, ◌⊎◌, inl, inr, ℕ, ◌-◌, ◌+◌, ◌^◌, ◌<◌, ◌≤◌, Bool, true, false, cond, not, List, [], ◌∷◌, length, Option, Some, None, Result, Ok, Err, refl, sym, ap, subst, ◌∙◌, arith}
-use Rattle.std.specs.Prelude.{IsErrAnd, count_by, nat_lt, ◌==◌}
+use Rattle.std.proofs.Common.{◌≡◌, ◌⊎◌, inl, inr, ℕ, ◌-◌, ◌+◌, ◌^◌, ◌<◌, ◌≤◌, Bool, true, false, not, List, [], ◌∷◌, length, Option, Some, None, Result, Ok, Err, refl, sym, ap, subst, ◌∙◌, arith}
+use Rattle.std.specs.Prelude.{IsErrAnd, count_by, ◌==◌}
 use Rattle.std.proofs.lemmas.Bool.{le-ltb}
 use Rattle.sector_disk.specs.declared.machine.Machine.{Ghosts as MachineGhosts}
 use Rattle.sector_disk.specs.Image.{AreShort}
@@ -13,10 +13,10 @@ use Rattle.fsd_bytes.specs.declared.refusal.Refusal.TheVariants as Why
 use Rattle.fsd_formats.specs.declared.entry.Entry.{Entry}
 use Rattle.fsd_table.specs.Tree.{IsTree, table_of}
 use Rattle.fsd_table.proofs.VisitLaws.{one_table}
-use Rattle.fsd_files.specs.Answers.{enter_fault, entry_of, least_pages, move_outcome, moved, moved_unless}
+use Rattle.fsd_files.specs.Answers.{enter_fault, entry_of, move_outcome, moved, moved_unless}
 use Rattle.fsd_files.specs.Files.{new_key}
 use Rattle.fsd_files.specs.declared.reply.Reply.TheVariants.{Moved, Refused}
-use Rattle.fsd_files.specs.Volume.{Volume, pages_free}
+use Rattle.fsd_files.specs.Volume.{pages_free}
 use Rattle.fsd_files.proofs.FoundLaws.{no_file}
 use Rattle.group_commit.specs.Cached.{AreWaiting}
 use Rattle.group_commit.specs.contracts.newest.NewestPageSource.TheImpl as by_log

@@ -78,6 +78,10 @@ put_places s keep len why comes = put_tested (λ (x : Refusal). device_of x ≡ 
 pub put_test_cause : (s : State) (keep : Option ℕ) (len : ℕ) (resident : ℕ → Option (List ℕ)) (before now : Moment) (why : Refusal) → Comes (test_steps s keep len) why → HasCallCause s s resident before now why
 put_test_cause s keep len resident before now why comes = put_tested (λ (x : Refusal). HasCallCause s s resident before now x) s keep len (λ place. tt) tt tt tt why comes
 
+-- nor that a version is there
+pub put_test_some : (s : State) (keep : Option ℕ) (len : ℕ) (why : Refusal) → Comes (test_steps s keep len) why → why ≡ Why.Exists → ⊥
+put_test_some s keep len why comes = put_tested (λ (x : Refusal). x ≡ Why.Exists → ⊥) s keep len (λ place same. cc same) (λ same. cc same) (λ same. cc same) (λ same. cc same) why comes
+
 -- nor that there is no such version
 pub delete_test_some : (s : State) (why : Refusal) → Comes (delete_tests s) why → why ≡ Why.NoSuch → ⊥
 delete_test_some s why comes = delete_tested (λ (x : Refusal). x ≡ Why.NoSuch → ⊥) s (λ place is same. cc same) (λ same. cc same) why comes

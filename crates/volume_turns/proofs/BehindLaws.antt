@@ -25,7 +25,7 @@ use Rattle.fsd_runs.specs.Runs.{turns_of}
 use Rattle.volume_contract.specs.Mount.{CountsMount, IsFound, IsRefused, IsSoundAt, KeepsAll, MountsSound, UnsoundFor}
 use Rattle.volume_contract.specs.State.{IsNew, Known, Stands, State, forced_of, none_open, volume_of}
 use Rattle.volume_turns.specs.Answering.{EndsOne, RunsOne, SaysNoReply}
-use Rattle.volume_turns.specs.Causes.{FailsInput, SaysFaultAt, SaysOfCall, SaysOfInput, TellsImage, is_of_fault}
+use Rattle.volume_turns.specs.Causes.{FailsInput, Front, SaysFaultAt, SaysOfCall, SaysOfInput, TellsImage, is_of_fault}
 use Rattle.volume_turns.specs.Healing.{EndsHealed, HealsOver, IfScrub, is_of_answer}
 use Rattle.volume_turns.specs.Line.{EndsWith, IsStatusFor, is_unsaid}
 use Rattle.volume_turns.specs.Once.{end_by_mount}
@@ -74,8 +74,8 @@ module _ {S D : Type 0} {state : S → State} {M : Ghosts D} {sectors : ℕ} {v 
   pub over_taking : {status : ℕ} → CountsTaking (M.report m) (M.report b) status → CountsTaking (M.report a) (M.report b) status
   over_taking {status} counts = script_counts_after (M.report a) (M.report m) (M.report b) status x.disk.uses x.disk.faults counts
 
-  pub over_image : (script : Bool) (AreCopies : Layout → ℕ → ℕ → Type 0) (made : Option ℕ) (status : ℕ) → M.honest b → (status ≡ 3 → SaysOfCall script AreCopies (state v).layout (M.now m).said (M.now b)) → (status ≡ 9 → MaySpend made) → TellsImage script AreCopies made sectors (M.now a) (M.now b) status
-  over_image script AreCopies made status h says may = tells_mounted script AreCopies made sectors (state v) (M.now a) (M.now m) (M.now b) status (M.now m).said (over_said h) (x.found (x.trust.honest h)) says may
+  pub over_image : (kind : Front) (AreCopies : Layout → ℕ → ℕ → Type 0) (made : Option ℕ) (status : ℕ) → M.honest b → (status ≡ 3 → SaysOfCall kind AreCopies (state v).layout (M.now m).said (M.now b)) → (status ≡ 9 → MaySpend made) → TellsImage kind AreCopies made sectors (M.now a) (M.now b) status
+  over_image kind AreCopies made status h says may = tells_mounted kind AreCopies made sectors (state v) (M.now a) (M.now m) (M.now b) status (M.now m).said (over_said h) (x.found (x.trust.honest h)) says may
 
   pub over_one : (command : Command) (status : ℕ) → M.honest b → EndsOne command (state v) (M.now m) (M.now b) status → RunsOne command sectors (M.now a) (M.now b) status
   over_one command status h ends =
@@ -148,10 +148,10 @@ module _ {D : Type 0} {M : Ghosts D} {sectors : ℕ} {fault : MountFault} {why :
   pub refused_taking : CountsTaking (M.report a) (M.report b) status
   refused_taking = script_counts (M.report a) (M.report b) status refused_counts
 
-  pub refused_image : (script : Bool) (AreCopies : Layout → ℕ → ℕ → Type 0) (made : Option ℕ) → M.honest b → TellsImage script AreCopies made sectors (M.now a) (M.now b) status
-  refused_image script AreCopies made h =
+  pub refused_image : (kind : Front) (AreCopies : Layout → ℕ → ℕ → Type 0) (made : Option ℕ) → M.honest b → TellsImage kind AreCopies made sectors (M.now a) (M.now b) status
+  refused_image kind AreCopies made h =
       let back = x.says.trust.honest h in
-      tells_refused script AreCopies made sectors fault why (M.now a) (M.now m) (M.now b) status x.is (x.refused back) (x.lost back) (x.unsound back) (x.kept back) (x.rest back) (x.disk.quiet back) (x.says.exit h) (x.ends h) x.for
+      tells_refused kind AreCopies made sectors fault why (M.now a) (M.now m) (M.now b) status x.is (x.refused back) (x.lost back) (x.unsound back) (x.kept back) (x.rest back) (x.disk.quiet back) (x.says.exit h) (x.ends h) x.for
 
   pub refused_last : IsTrue (is_of_fault status) → M.honest b → SaysFaultAt (M.report b).fault_place (M.now b) status
   refused_last of h = mount_fault fault why (M.report a) (M.report m) (M.report b) (M.now m) (M.now b) status x.is x.disk.faults x.says.spares.place (x.ends h) of

@@ -2,6 +2,7 @@
 use Rattle.std.proofs.Common.{◌≡◌, inl, inr, ℕ, zero, suc, ◌+◌, ◌<◌, ◌≤◌, Bool, true, false, List, [], ◌∷◌, ◌++◌, length, take, drop, Option, Some, None, refl, sym, ◌∙◌, ap, subst, arith}
 use Rattle.std.specs.Prelude.{◌&&◌, if◌then◌else◌, nat_lt, IfOk, IsTrue, Result, Ok, Err}
 use Rattle.std.proofs.lemmas.Bool.{ltb-true}
+use Rattle.std.proofs.lemmas.List.{append-nil}
 use Rattle.volume_layout.specs.declared.layout.Layout.{Layout}
 use Rattle.sector_disk.specs.Image.{IsWorn, open_damage}
 use Rattle.sector_disk.specs.Machine.{Ledger, Moment, Report, Rose, Utters, took}
@@ -27,7 +28,7 @@ use Rattle.volume_contract.specs.State.{State}
 use Rattle.volume_turns.specs.declared.script.Stop.{Stop}
 use Rattle.volume_turns.specs.declared.script.Stop.TheVariants.{Ended, WornOut}
 use Rattle.volume_turns.specs.declared.turns.Halt.{Halt}
-use Rattle.volume_turns.specs.Causes.{HasSpent, HasVolume, IsOfInput, SaysOfCall, SaysOfImage, SaysOfInput, StandsBefore, TellsImage, is_of_mounted}
+use Rattle.volume_turns.specs.Causes.{Front, HasSpent, HasVolume, IsOfInput, Nothing, Parts, Replies, SaysOfCall, SaysOfImage, SaysOfInput, StandsBefore, TellsImage, is_of_mounted}
 use Rattle.volume_turns.specs.Each.{SaysBetween}
 use Rattle.volume_turns.specs.Line.{EndsWith, IsStatusFor}
 use Rattle.client_desk.specs.declared.client.Client.{Client}
@@ -43,17 +44,18 @@ use Rattle.volume_turns.proofs.ToldLaws.{told_since}
 -- ---- a fault of the image
 
 -- where nothing was said before
-pub stands_before : (script : Bool) (said front : List ℕ) → front ≡ said → StandsBefore script said front
-stands_before true said front same = no_replies reply_text said front same
-stands_before false said front same = same
+pub stands_before : (kind : Front) (said front : List ℕ) → front ≡ said → StandsBefore kind said front
+stands_before Replies said front same = no_replies reply_text said front same
+stands_before Nothing said front same = same
+stands_before Parts said front same = ([], same ∙ sym (append-nil said))
 
 -- at its status it is the fault itself that is said
 told_itself : (why : Fault) (old new : Moment) (status : ℕ) → EndsWith why old new status → status ≡ 3 → (fault_status why ≡ 3) × (new.said ≡ old.said ++ fault_text why)
 told_itself why old new status (inl six) three = absurd (omega (arith, six, three))
 told_itself why old new status (inr (gives, all)) three = (sym gives ∙ three, all.said)
 
-pub of_fault : (script : Bool) (before : List ℕ) (why : Fault) (old new : Moment) (status : ℕ) → StandsBefore script before old.said → EndsWith why old new status → status ≡ 3 → SaysOfImage script before why new
-of_fault script before why old new status behind ended three =
+pub of_fault : (kind : Front) (before : List ℕ) (why : Fault) (old new : Moment) (status : ℕ) → StandsBefore kind before old.said → EndsWith why old new status → status ≡ 3 → SaysOfImage kind before why new
+of_fault kind before why old new status behind ended three =
     let told = told_itself why old new status ended three in
     record { status = told.0; front = old.said; behind = behind; said = told.1 }
 
@@ -67,10 +69,10 @@ image_of_call Ends.WornOut of three = absurd (omega (arith, three))
 image_of_call why of three = absurd of
 
 -- what is lost as it is told stays so to its line
-pub call_says : (script : Bool) (AreCopies : Layout → ℕ → ℕ → Type 0) (layout : Layout) (before : List ℕ) (why : Fault) → IsOfCall why → (old new : Moment) (status : ℕ) → StandsBefore script before old.said → IsWorn (open_damage old.windows) old.image new.image → IsToldOn AreCopies layout old.image why
-    → EndsWith why old new status → status ≡ 3 → SaysOfCall script AreCopies layout before new
-call_says script AreCopies layout before why of old new status behind worn told ended three =
-    let says = of_fault script before why old new status behind ended three in
+pub call_says : (kind : Front) (AreCopies : Layout → ℕ → ℕ → Type 0) (layout : Layout) (before : List ℕ) (why : Fault) → IsOfCall why → (old new : Moment) (status : ℕ) → StandsBefore kind before old.said → IsWorn (open_damage old.windows) old.image new.image → IsToldOn AreCopies layout old.image why
+    → EndsWith why old new status → status ≡ 3 → SaysOfCall kind AreCopies layout before new
+call_says kind AreCopies layout before why of old new status behind worn told ended three =
+    let says = of_fault kind before why old new status behind ended three in
     record { why = why; of = image_of_call why of says.status; told = told_since AreCopies layout (open_damage old.windows) old.image new.image worn why told; says = says }
 
 -- ---- a mount
@@ -79,8 +81,8 @@ has_volume : (sectors : ℕ) (s : State) (old mounted : Moment) → IsFound sect
 has_volume sectors s old mounted f = record { seen = f.seen; from = f.from; layout = s.layout; anchor = f.anchor; found = f.found; left = f.left }
 
 -- what was said of it as the mount ended was said before
-pub call_since : (script : Bool) (AreCopies : Layout → ℕ → ℕ → Type 0) (layout : Layout) (before now : List ℕ) (new : Moment) → now ≡ before → SaysOfCall script AreCopies layout now new → SaysOfCall script AreCopies layout before new
-call_since script AreCopies layout before now new same says = subst (λ (x : List ℕ). SaysOfCall script AreCopies layout x new) same says
+pub call_since : (kind : Front) (AreCopies : Layout → ℕ → ℕ → Type 0) (layout : Layout) (before now : List ℕ) (new : Moment) → now ≡ before → SaysOfCall kind AreCopies layout now new → SaysOfCall kind AreCopies layout before new
+call_since kind AreCopies layout before now new same says = subst (λ (x : List ℕ). SaysOfCall kind AreCopies layout x new) same says
 
 -- the numbers of a mount are used up by so many commands that are made up
 abbrev pub MaySpend : Option ℕ → Type 0
@@ -91,14 +93,14 @@ spent_mounted : (made : Option ℕ) (sectors : ℕ) (old : Moment) → HasVolume
 spent_mounted (Some count) sectors old volume may = inl (volume, may)
 spent_mounted None sectors old volume may = absurd may
 
-pub tells_mounted : (script : Bool) (AreCopies : Layout → ℕ → ℕ → Type 0) (made : Option ℕ) (sectors : ℕ) (s : State) (old mounted new : Moment) (status : ℕ) (now : List ℕ) → now ≡ old.said → IsFound sectors s old mounted → (status ≡ 3 → SaysOfCall script AreCopies s.layout now new) → (status ≡ 9 → MaySpend made)
-    → TellsImage script AreCopies made sectors old new status
+pub tells_mounted : (kind : Front) (AreCopies : Layout → ℕ → ℕ → Type 0) (made : Option ℕ) (sectors : ℕ) (s : State) (old mounted new : Moment) (status : ℕ) (now : List ℕ) → now ≡ old.said → IsFound sectors s old mounted → (status ≡ 3 → SaysOfCall kind AreCopies s.layout now new) → (status ≡ 9 → MaySpend made)
+    → TellsImage kind AreCopies made sectors old new status
 unfolding has_volume
-tells_mounted script AreCopies made sectors s old mounted new status now same f says may =
+tells_mounted kind AreCopies made sectors s old mounted new status now same f says may =
     let volume = has_volume sectors s old mounted f in
     record {
       mounted = λ any. volume;
-      refused = λ three. let x = call_since script AreCopies s.layout old.said now new same (says three) in record { why = x.why; says = x.says; cause = inr (record { mounted = volume; of = x.of; told = x.told }) };
+      refused = λ three. let x = call_since kind AreCopies s.layout old.said now new same (says three) in record { why = x.why; says = x.says; cause = inr (record { mounted = volume; of = x.of; told = x.told }) };
       spent = λ nine. spent_mounted made sectors old volume (may nine);
     }
 
@@ -121,13 +123,13 @@ spent_refused : (made : Option ℕ) (sectors : ℕ) (old : Moment) → IsRefused
 spent_refused (Some count) sectors old refused = inr refused
 spent_refused None sectors old refused = refused
 
-pub tells_refused : (script : Bool) (AreCopies : Layout → ℕ → ℕ → Type 0) (made : Option ℕ) (sectors : ℕ) (fault : MountFault) (why : Fault) (old ended new : Moment) (status : ℕ) → why ≡ end_by_mount fault → IsRefused sectors fault old → LostIn (AreCopiesOn sectors old) ended.image fault → UnsoundFor sectors old ended fault
-    → KeepsAll fault old ended → MountKeeps sectors old ended → ended.said ≡ old.said → Utters (fault_text why) ended new → EndsWith why ended new status → IsStatusFor why status → TellsImage script AreCopies made sectors old new status
-tells_refused script AreCopies made sectors fault why old ended new status is refused lost unsound kept rest same utters ends for = record {
+pub tells_refused : (kind : Front) (AreCopies : Layout → ℕ → ℕ → Type 0) (made : Option ℕ) (sectors : ℕ) (fault : MountFault) (why : Fault) (old ended new : Moment) (status : ℕ) → why ≡ end_by_mount fault → IsRefused sectors fault old → LostIn (AreCopiesOn sectors old) ended.image fault → UnsoundFor sectors old ended fault
+    → KeepsAll fault old ended → MountKeeps sectors old ended → ended.said ≡ old.said → Utters (fault_text why) ended new → EndsWith why ended new status → IsStatusFor why status → TellsImage kind AreCopies made sectors old new status
+tells_refused kind AreCopies made sectors fault why old ended new status is refused lost unsound kept rest same utters ends for = record {
   mounted = λ any. absurd (refused_not fault status (subst (λ (w : Fault). IsStatusFor w status) is for) any);
   refused = λ three. record {
     why = why;
-    says = of_fault script old.said why ended new status (stands_before script old.said ended.said same) ends three;
+    says = of_fault kind old.said why ended new status (stands_before kind old.said ended.said same) ends three;
     cause = inl (record { fault = fault; is = is; refused = refused; ended = ended; since = record { image = utters.image; windows = utters.windows }; lost = lost; unsound = unsound; kept = kept; rest = rest; said = (told_itself why ended new status ends three).1 ∙ ap (λ (x : List ℕ). x ++ fault_text why) same });
   };
   spent = λ nine. spent_refused made sectors old (worn_of sectors old fault status (subst (λ (w : Fault). IsStatusFor w status) is for) nine refused);

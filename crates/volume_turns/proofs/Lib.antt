@@ -11,6 +11,9 @@ pub mod CallWornLaws
 pub mod CauseLaws
 pub mod CountLaws
 pub mod DidLaws
+pub mod DumpEndLaws
+pub mod DumpLaws
+pub mod DumpRunLaws
 pub mod DumpedLaws
 pub mod EachLaws
 pub mod GenerateLaws
@@ -32,6 +35,7 @@ pub mod OnceLaws
 pub mod OneLaws
 pub mod OrderLaws
 pub mod OtherLaws
+pub mod PlainLaws
 pub mod PutLaws
 pub mod QuietLaws
 pub mod ReadLaws
@@ -58,5 +62,6 @@ pub mod TakingLaws
 pub mod ToldLaws
 pub mod TurnLaws
 pub mod UpgradeLaws
+pub mod UtterLaws
 pub mod WholeLaws
 pub mod WornLaws

@@ -26,7 +26,7 @@ use Rattle.volume_turns.specs.declared.script.Stop.{Stop}
 use Rattle.volume_turns.specs.declared.script.Stop.TheVariants.{Ended, Input, WornOut}
 use Rattle.volume_turns.specs.declared.turns.Halt.{Halt}
 use Rattle.volume_turns.specs.declared.turns.Halt.TheVariants.{Fault as Stopped, Output}
-use Rattle.volume_turns.specs.Causes.{FailsInput, SaysFaultAt, SaysOfCall, SaysOfInput, is_of_fault}
+use Rattle.volume_turns.specs.Causes.{FailsInput, Replies, SaysFaultAt, SaysOfCall, SaysOfInput, is_of_fault}
 use Rattle.volume_turns.specs.Last.{EndsSo, ending_line, ending_status}
 use Rattle.volume_turns.specs.Line.{EndsLast, is_unsaid}
 use Rattle.volume_turns.specs.Script.{GroupsBy, Heard, RoseBy, SparesWanting}
@@ -146,8 +146,8 @@ module _ {D : Type 0} (M : Ghosts D) (a p b : D) (status : ℕ) where
 
   -- one of the image
   pub script_call : (l : Layout) (ended : Result Stop Halt) → IfErr ended IsEndOfVolume → BreaksWhole reply_text (M.now a) (M.now p) ended → IfErr ended (λ end. M.honest p → IsEndOn AreOfPage l (M.now p).image end) → M.honest p → So ended → ending_status ended ≡ 3 → status ≡ 3 → M.honest b
-      → SaysOfCall true AreOfPage l (M.now a).said (M.now b)
-  script_call l (Err (Stopped why)) of whole on back x is three h = call_says true AreOfPage l (M.now a).said why of (M.now p) (M.now b) status whole (x.says.exit h).image (on back) (x.ends h) three
+      → SaysOfCall Replies AreOfPage l (M.now a).said (M.now b)
+  script_call l (Err (Stopped why)) of whole on back x is three h = call_says Replies AreOfPage l (M.now a).said why of (M.now p) (M.now b) status whole (x.says.exit h).image (on back) (x.ends h) three
   script_call l (Ok (Ended Done)) of whole on back x is three h = absurd (omega (arith, is))
   script_call l ended of whole on back x is three h = absurd (omega (arith, is))
 

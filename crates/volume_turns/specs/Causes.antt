@@ -1,5 +1,5 @@
 -- What the status of a run tells of the image that it found, and of its input, whatever these were.
-use Rattle.std.specs.Prelude.{◌≡◌, ◌⊎◌, ◌<◌, ◌≤◌, ◌==◌, ℕ, Bool, true, false, Option, Some, None, List, [], ◌∷◌, ◌++◌, length, IfSome, IsTrue}
+use Rattle.std.specs.Prelude.{◌≡◌, ◌⊎◌, ◌<◌, ◌≤◌, ◌==◌, ℕ, Bool, Option, Some, None, List, [], ◌∷◌, ◌++◌, length, IfSome, IsTrue}
 use Rattle.std.specs.List.{list_any}
 use Rattle.volume_layout.specs.declared.layout.Layout.{Layout}
 use Rattle.sector_disk.specs.Image.{IsWorn, open_damage}
@@ -65,22 +65,31 @@ pub record IsCallRefused (AreCopies : Layout → ℕ → ℕ → Type 0) (sector
   pub of : IsOfImage why
   pub told : IsToldOn AreCopies mounted.layout new.image why
 
--- what a run has said in front of its last line: whole replies, where it is a script, and else nothing
-abbrev pub StandsBefore : (script : Bool) → (said front : List ℕ) → Type 0
-StandsBefore true said front = SaysReplies reply_text said front
-StandsBefore false said front = front ≡ said
+-- What a run says in front of its last line.
+pub data Front : Type 0 where
+  Nothing : Front
+  -- Whole replies.
+  Replies : Front
+  -- Some bytes, as those of a dump.
+  Parts : Front
+
+-- so it has been said
+abbrev pub StandsBefore : Front → (said front : List ℕ) → Type 0
+StandsBefore Nothing said front = front ≡ said
+StandsBefore Replies said front = SaysReplies reply_text said front
+StandsBefore Parts said front = (part : List ℕ) × (front ≡ said ++ part)
 
 -- the last line that is said is this fault's, and its status is 3
-pub record SaysOfImage (script : Bool) (before : List ℕ) (why : Fault) (new : Moment) : Type 0 where
+pub record SaysOfImage (kind : Front) (before : List ℕ) (why : Fault) (new : Moment) : Type 0 where
   pub status : fault_status why ≡ 3
   pub front : List ℕ
-  pub behind : StandsBefore script before front
+  pub behind : StandsBefore kind before front
   pub said : new.said ≡ front ++ fault_text why
 
 -- A fault of the image is said last, and has its cause.
-pub record SaysCause (script : Bool) (AreCopies : Layout → ℕ → ℕ → Type 0) (sectors : ℕ) (old new : Moment) : Type 0 where
+pub record SaysCause (kind : Front) (AreCopies : Layout → ℕ → ℕ → Type 0) (sectors : ℕ) (old new : Moment) : Type 0 where
   pub why : Fault
-  pub says : SaysOfImage script old.said why new
+  pub says : SaysOfImage kind old.said why new
   pub cause : IsMountRefused sectors why old new ⊎ IsCallRefused AreCopies sectors why old new
 
 -- The mount was refused for an epoch that was seen to be the last one; where so many commands are made up that they may
@@ -91,19 +100,19 @@ HasSpent None sectors old = IsRefused sectors WornOut old
 
 -- ---- all of these
 
--- What a run tells of the image that it found, by its status, whether it is a script, what its calls may tell as lost,
--- and how many commands it makes up, if it does.
-pub record TellsImage (script : Bool) (AreCopies : Layout → ℕ → ℕ → Type 0) (made : Option ℕ) (sectors : ℕ) (old new : Moment) (status : ℕ) : Type 0 where
+-- What a run tells of the image that it found, by its status, what it says in front of its last line, what its calls may
+-- tell as lost, and how many commands it makes up, if it does.
+pub record TellsImage (kind : Front) (AreCopies : Layout → ℕ → ℕ → Type 0) (made : Option ℕ) (sectors : ℕ) (old new : Moment) (status : ℕ) : Type 0 where
   pub mounted : IsTrue (is_of_mounted status) → HasVolume sectors old
-  pub refused : status ≡ 3 → SaysCause script AreCopies sectors old new
+  pub refused : status ≡ 3 → SaysCause kind AreCopies sectors old new
   pub spent : status ≡ 9 → HasSpent made sectors old
 
 -- Over a mounted volume of this layout: status 3 is that of a fault that a call told, and what it tells is so.
-pub record SaysOfCall (script : Bool) (AreCopies : Layout → ℕ → ℕ → Type 0) (layout : Layout) (before : List ℕ) (new : Moment) : Type 0 where
+pub record SaysOfCall (kind : Front) (AreCopies : Layout → ℕ → ℕ → Type 0) (layout : Layout) (before : List ℕ) (new : Moment) : Type 0 where
   pub why : Fault
   pub of : IsOfImage why
   pub told : IsToldOn AreCopies layout new.image why
-  pub says : SaysOfImage script before why new
+  pub says : SaysOfImage kind before why new
 
 -- ---- the fault that is said
 

@@ -3,6 +3,7 @@ pub mod Calls
 pub mod Causes
 pub mod Commands
 pub mod Did
+pub mod Dumping
 pub mod Each
 pub mod Generate
 pub mod Group

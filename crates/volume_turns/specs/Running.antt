@@ -1,5 +1,5 @@
 -- What a run over an image does from the mount to its last line, and what it leaves of a sound one.
-use Rattle.std.specs.Prelude.{◌≡◌, ◌≤◌, ◌+◌, Bool, List, [], ℕ, length, IsTrue}
+use Rattle.std.specs.Prelude.{◌≡◌, ◌≤◌, ◌+◌, List, [], ℕ, length, IsTrue}
 use Rattle.volume_layout.specs.declared.layout.Layout.{Layout}
 use Rattle.sector_disk.specs.declared.machine.Machine.{Ghosts}
 use Rattle.sector_disk.specs.Calls.{IsHeld, Since}
@@ -10,7 +10,7 @@ use Rattle.fsd_runs.specs.Commands.{reply_text}
 use Rattle.fsd_runs.specs.Leaves.{IsSoundAsSaid, LeavesRun, Was}
 use Rattle.fsd_runs.specs.declared.request.Request.{Request}
 use Rattle.volume_contract.specs.Mount.{IsSoundAt}
-use Rattle.volume_turns.specs.Causes.{FailsInput, SaysFaultAt, SaysOfCall, SaysOfInput, is_of_fault}
+use Rattle.volume_turns.specs.Causes.{FailsInput, Front, SaysFaultAt, SaysOfCall, SaysOfInput, is_of_fault}
 use Rattle.volume_turns.specs.Each.{SaysBadLine, SaysForced}
 use Rattle.volume_turns.specs.Status.{CountsRun, CountsTaking}
 use Rattle.volume_turns.specs.Syncs.{SyncsUpTo}
@@ -56,8 +56,8 @@ pub record ReadsAll (input left : List ℕ) : Type 0 where
 -- ---- what is said
 
 -- Over a mounted volume of this layout: what a call of it has told, and what else has come where the mount is worn out.
-pub record TellsMounted (script : Bool) (AreCopies : Layout → ℕ → ℕ → Type 0) (l : Layout) (Spent : Type 0) (old new : Moment) (result : ℕ) : Type 0 where
-  pub says : result ≡ 3 → SaysOfCall script AreCopies l old.said new
+pub record TellsMounted (kind : Front) (AreCopies : Layout → ℕ → ℕ → Type 0) (l : Layout) (Spent : Type 0) (old new : Moment) (result : ℕ) : Type 0 where
+  pub says : result ≡ 3 → SaysOfCall kind AreCopies l old.said new
   pub spent : result ≡ 9 → Spent
 
 -- A script that is done, or that has a bad line, has said a reply for each of its commands, over what there was since

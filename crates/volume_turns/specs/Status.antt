@@ -40,6 +40,10 @@ IsScriptStatus status = (status ≡ 0) ⊎ ((status ≡ 2) ⊎ ((status ≡ 5) �
 abbrev pub IsMadeStatus : ℕ → Type 0
 IsMadeStatus status = (status ≡ 0) ⊎ IsStatusBroken status
 
+-- a dump is done, or refused, or has damaged data sectors
+abbrev pub IsDumpStatus : ℕ → Type 0
+IsDumpStatus status = (status ≤ 1) ⊎ ((status ≡ 8) ⊎ IsStatusBroken status)
+
 -- ---- what is counted
 
 -- No fault is counted.

@@ -8,7 +8,7 @@ ghost use Rattle.fsd_runs.specs.declared.request.Request.TheVariants.{Generate};
 ghost use Rattle.client_desk.specs.Clients.{IsDesk, no_desk};
 ghost use Rattle.volume_contract.specs.State.{Known, Stands, none_open, forced_of};
 ghost use Rattle.scrub.specs.Telling.{AreOfPage};
-ghost use Rattle.volume_turns.specs.Causes.{SaysMade, TellsImage};
+ghost use Rattle.volume_turns.specs.Causes.{Nothing, SaysMade, TellsImage};
 ghost use Rattle.volume_turns.specs.Generate.{CountedGroup, Draws, RunsCounted, SaysNothing, StepsCounted};
 ghost use Rattle.volume_turns.specs.Numbers.{MayWear, UsesNumbers};
 ghost use Rattle.volume_turns.specs.Once.{ClosesAndSays, SaysForcedOver, unit_of};
@@ -200,7 +200,7 @@ fn generate_on<M: Machine, V: Files<M> + Drop>(
     requires idle { IsDesk (V.state v) no_desk }
     ensures ends { EndsMounted M.Machine IsMadeStatus m.old m.new result }
     ensures takes { TakesNothing M.Machine m.old m.new result }
-    ensures tells { M.honest m.new → TellsMounted false AreOfPage (V.state v).layout (MayWear count (V.state v)) (M.now m.old) (M.now m.new) result }
+    ensures tells { M.honest m.new → TellsMounted Nothing AreOfPage (V.state v).layout (MayWear count (V.state v)) (M.now m.old) (M.now m.new) result }
     ensures all { result ≡ 0 → M.honest m.new → SaysMade count (M.now m.old).said (M.now m.new) }
     ensures runs { M.honest m.new → (input rest : List ℕ) (k : Known) → k.opened ≡ none_open → Stands V.state V.holds v k (M.now m.old) → OnDisk M.Machine k (forced_of k) m.old → RunsOut M.Machine (Generate seed count) input rest (M.report m.old) k m.old m.new result }
 {
@@ -224,7 +224,7 @@ pub fn run_generate<M: Machine, V: Files<M> + Drop>(
     requires sectors { sectors ≡ (M.report m.old).sectors }
     ensures ends { EndsRun M.Machine IsMadeStatus m.old m.new result }
     ensures takes { TakesNothing M.Machine m.old m.new result }
-    ensures image { M.honest m.new → TellsImage false AreOfPage (Some count) sectors (M.now m.old) (M.now m.new) result }
+    ensures image { M.honest m.new → TellsImage Nothing AreOfPage (Some count) sectors (M.now m.old) (M.now m.new) result }
     ensures all { result ≡ 0 → M.honest m.new → SaysMade count (M.now m.old).said (M.now m.new) }
     ensures leaves { M.honest m.new → (input rest : List ℕ) → LeavesOver M.Machine (Generate seed count) input rest sectors m.old m.new result }
 {

@@ -10,7 +10,7 @@ ghost use Rattle.volume_contract.specs.State.{Known, Stands, is_worn, none_open,
 ghost use Rattle.volume_contract.specs.Upgrade.{is_fresh};
 ghost use Rattle.scrub.specs.Telling.{AreOfPage};
 ghost use Rattle.volume_turns.specs.Answering.{SaysNoReply, SaysOne};
-ghost use Rattle.volume_turns.specs.Causes.{SaysOfCall, SaysOfInput, TellsImage};
+ghost use Rattle.volume_turns.specs.Causes.{Nothing, SaysOfCall, SaysOfInput, TellsImage};
 ghost use Rattle.volume_turns.specs.Running.{EndsMounted, EndsRun, LeavesOver, TakesToEnd, TakesInput, TakesNothing, TellsMounted};
 ghost use Rattle.volume_turns.specs.Status.{IsPutStatus, IsStatusOfLong};
 ghost use Rattle.volume_turns.specs.Whole.{RunsOut};
@@ -31,7 +31,7 @@ use volume_contract::Files;
 pub(crate) fn refuse_input<M: Machine, V: Files<M> + Drop>(v: V, m: &mut M) -> u8
     ensures ends { EndsMounted M.Machine IsStatusOfLong m.old m.new result }
     ensures takes { TakesNothing M.Machine m.old m.new result }
-    ensures says { result ≡ 3 → M.honest m.new → SaysOfCall false AreOfPage (V.state v).layout (M.now m.old).said (M.now m.new) }
+    ensures says { result ≡ 3 → M.honest m.new → SaysOfCall Nothing AreOfPage (V.state v).layout (M.now m.old).said (M.now m.new) }
     ensures fault { M.honest m.new → SaysNoReply (M.now m.old) (M.now m.new) result }
     ensures long { result ≡ 5 → M.honest m.new → (input : List ℕ) (old new : Report) → max_input < length input → SaysOfInput input old new (M.now m.new) }
     ensures runs { M.honest m.new → (name : List ℕ) (keep : Option ℕ) (input rest : List ℕ) (k : Known) → max_input < length input → (volume_of k).unforced ≡ 0 → Stands V.state V.holds v k (M.now m.old) → OnDisk M.Machine k (forced_of k) m.old → RunsOut M.Machine (Put name keep) input rest (M.report m.old) k m.old m.new result }
@@ -59,7 +59,7 @@ fn put_on<M: Machine, V: Files<M> + Drop, T: Says>(
     ensures ends { EndsMounted M.Machine IsPutStatus m.old m.new result }
     ensures takes { TakesInput M.Machine M.tells 1 m.old m.new result }
     ensures whole { result ≤ 1 → M.tells m.new → TakesToEnd (M.ledger m.old).input (M.ledger m.new).input }
-    ensures tells { M.honest m.new → TellsMounted false AreOfPage (V.state v).layout ⊥ (M.now m.old) (M.now m.new) result }
+    ensures tells { M.honest m.new → TellsMounted Nothing AreOfPage (V.state v).layout ⊥ (M.now m.old) (M.now m.new) result }
     ensures one { M.honest m.new → (V.state v).dirty ≡ [] → SaysOne (Word.Put name (M.ledger m.old).input keep) (M.now m.old) (M.now m.new) result }
     ensures runs { M.honest m.new → (k : Known) → (volume_of k).unforced ≡ 0 → k.opened ≡ none_open → Stands V.state V.holds v k (M.now m.old) → OnDisk M.Machine k (forced_of k) m.old → RunsOut M.Machine (Put name keep) (M.ledger m.old).input (M.ledger m.new).input (M.report m.old) k m.old m.new result }
 {
@@ -85,7 +85,7 @@ pub fn run_put<M: Machine, V: Files<M> + Drop, T: Says>(
     ensures ends { EndsRun M.Machine IsPutStatus m.old m.new result }
     ensures takes { TakesInput M.Machine M.tells 1 m.old m.new result }
     ensures whole { result ≤ 1 → M.tells m.new → TakesToEnd (M.ledger m.old).input (M.ledger m.new).input }
-    ensures image { M.honest m.new → TellsImage false AreOfPage None sectors (M.now m.old) (M.now m.new) result }
+    ensures image { M.honest m.new → TellsImage Nothing AreOfPage None sectors (M.now m.old) (M.now m.new) result }
     ensures one { M.honest m.new → SaysOne (Word.Put name (M.ledger m.old).input keep) (M.now m.old) (M.now m.new) result }
     ensures leaves { M.honest m.new → LeavesOver M.Machine (Put name keep) (M.ledger m.old).input (M.ledger m.new).input sectors m.old m.new result }
 {

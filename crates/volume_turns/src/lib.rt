@@ -1,10 +1,11 @@
-//! Programs over the contract of a volume that know nothing else of it: one command, a put of the input, a script, and
-//! commands that are made up, each from the mount to the last line.
+//! Programs over the contract of a volume that know nothing else of it: one command, a put of the input, a script, a
+//! dump, and commands that are made up, each from the mount to the last line.
 #![tactic(auto)]
 
 mod answer;
 mod calls;
 mod commands;
+mod dumping;
 mod generate;
 mod input;
 mod line;
@@ -20,6 +21,7 @@ mod turns;
 mod upgrade;
 mod whole;
 
+pub use dumping::run_dump;
 pub use generate::run_generate;
 pub use input::run_put;
 pub use line::last_line;

@@ -13,7 +13,7 @@ ghost use Rattle.fsd_runs.specs.Errands.{forced_turn, is_forced};
 ghost use Rattle.fsd_runs.specs.Sessions.{Meeting, answer_in};
 ghost use Rattle.client_desk.specs.Clients.{IsDesk, no_desk};
 ghost use Rattle.volume_contract.specs.State.{Known, Stands, none_open, forced_of};
-ghost use Rattle.volume_turns.specs.Causes.{TellsImage};
+ghost use Rattle.volume_turns.specs.Causes.{Replies, TellsImage};
 ghost use Rattle.volume_turns.specs.Last.{EndsSo, ending_line, ending_status};
 ghost use Rattle.volume_turns.specs.Numbers.{MayWear, UsesNumbers};
 ghost use Rattle.volume_turns.specs.Once.{ClosesAndSays, SaysForcedOver, unit_of};
@@ -218,7 +218,7 @@ fn script_on<M: Machine, V: Files<M> + Drop, T: Says>(alloc: Global, v: V, m: &m
     ensures ends { EndsMounted M.Machine IsScriptStatus m.old m.new result }
     ensures takes { TakesInput M.Machine M.honest (most_in_script (M.ledger m.old).input) m.old m.new result }
     ensures whole { result ≡ 0 → M.tells m.new → ReadsAll (M.ledger m.old).input (M.ledger m.new).input }
-    ensures tells { M.honest m.new → TellsMounted true AreOfPage (V.state v).layout (MayWear (max_input + 1) (V.state v)) (M.now m.old) (M.now m.new) result }
+    ensures tells { M.honest m.new → TellsMounted Replies AreOfPage (V.state v).layout (MayWear (max_input + 1) (V.state v)) (M.now m.old) (M.now m.new) result }
     ensures says { M.honest m.new → SaysScript M.Machine m.old m.new result }
     ensures runs { M.honest m.new → (k : Known) → k.opened ≡ none_open → Stands V.state V.holds v k (M.now m.old) → OnDisk M.Machine k (forced_of k) m.old → RunsOut M.Machine Script (M.ledger m.old).input (M.ledger m.new).input (M.report m.old) k m.old m.new result }
 {
@@ -240,7 +240,7 @@ pub fn run_script<M: Machine, V: Files<M> + Drop, T: Says>(
     ensures ends { EndsRun M.Machine IsScriptStatus m.old m.new result }
     ensures takes { TakesInput M.Machine M.honest (most_in_script (M.ledger m.old).input) m.old m.new result }
     ensures whole { result ≡ 0 → M.tells m.new → ReadsAll (M.ledger m.old).input (M.ledger m.new).input }
-    ensures image { M.honest m.new → TellsImage true AreOfPage None sectors (M.now m.old) (M.now m.new) result }
+    ensures image { M.honest m.new → TellsImage Replies AreOfPage None sectors (M.now m.old) (M.now m.new) result }
     ensures says { M.honest m.new → SaysScript M.Machine m.old m.new result }
     ensures leaves { M.honest m.new → LeavesOver M.Machine Script (M.ledger m.old).input (M.ledger m.new).input sectors m.old m.new result }
 {

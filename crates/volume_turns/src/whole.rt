@@ -5,7 +5,7 @@ ghost use Rattle.sector_disk.specs.Calls.{Since};
 ghost use Rattle.fsd_runs.specs.Commands.{reply_alone};
 ghost use Rattle.fsd_runs.specs.declared.request.Request.TheVariants.{One};
 ghost use Rattle.volume_turns.specs.Answering.{RunsOne};
-ghost use Rattle.volume_turns.specs.Causes.{TellsImage};
+ghost use Rattle.volume_turns.specs.Causes.{Nothing, TellsImage};
 ghost use Rattle.volume_turns.specs.Healing.{EndsHealed, HealsOver, IfScrub, is_of_answer};
 ghost use Rattle.volume_turns.specs.Running.{EndsRun, LeavesOver, TakesNothing, TellsMounted};
 ghost use Rattle.volume_turns.specs.Status.{IsOneStatus};
@@ -37,7 +37,7 @@ pub(crate) fn one_on<M: Machine, V: Files<M> + Drop, T: Says>(
     ensures ends { EndsRun M.Machine (IsOneStatus c.now) m.old m.new result }
     ensures takes { TakesNothing M.Machine m.old m.new result }
     ensures since { M.honest m.new → Since M.Machine m.old m.new }
-    ensures tells { M.honest m.new → TellsMounted false (MayLose c.now) (V.state v).layout ⊥ (M.now m.old) (M.now m.new) result }
+    ensures tells { M.honest m.new → TellsMounted Nothing (MayLose c.now) (V.state v).layout ⊥ (M.now m.old) (M.now m.new) result }
     ensures one { M.honest m.new → (V.state v).dirty ≡ [] → EndsHealed M.Machine V.state V.holds c.now v m.old m.new result }
     ensures runs { M.honest m.new → (rest : List ℕ) (k : Known) → (volume_of k).unforced ≡ 0 → k.opened ≡ none_open → Stands V.state V.holds v k (M.now m.old) → OnDisk M.Machine k (forced_of k) m.old → RunsOut M.Machine (One c.now) [] rest (M.report m.old) k m.old m.new result }
 {
@@ -60,7 +60,7 @@ pub fn run_one<M: Machine, V: Files<M> + Drop, T: Says>(
     requires says { T.errand.says ≡ reply_alone }
     ensures ends { EndsRun M.Machine (IsOneStatus c.now) m.old m.new result }
     ensures takes { TakesNothing M.Machine m.old m.new result }
-    ensures image { M.honest m.new → TellsImage false (MayLose c.now) None sectors (M.now m.old) (M.now m.new) result }
+    ensures image { M.honest m.new → TellsImage Nothing (MayLose c.now) None sectors (M.now m.old) (M.now m.new) result }
     ensures one { M.honest m.new → RunsOne c.now sectors (M.now m.old) (M.now m.new) result }
     ensures healed { M.honest m.new → IsTrue (is_of_answer result) → IfScrub c.now (HealsOver M.Machine sectors m.old m.new) }
     ensures leaves { M.honest m.new → (rest : List ℕ) → LeavesOver M.Machine (One c.now) [] rest sectors m.old m.new result }

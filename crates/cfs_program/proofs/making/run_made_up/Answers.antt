@@ -1,10 +1,11 @@
-use Rattle.std.proofs.Common.{ℕ, List, Some, false, ◌∙◌, subst, inl, [], arith}
+use Rattle.std.proofs.Common.{ℕ, List, Some, ◌∙◌, subst, inl, [], arith}
 use Rattle.fsd_runs.specs.declared.request.Request.TheVariants.{Generate}
 use Rattle.volume_turns.specs.Causes.{SaysMade}
 use Rattle.volume_turns.proofs.SayLaws.{timed_by}
 use Rattle.scrub.specs.Telling.{AreOfPage}
 use Rattle.cfs_program.proofs.AmongLaws.{made_complete_is, made_not_five, made_status}
 use Rattle.cfs_program.proofs.AttachLaws.{RunsFound, found_accepted, found_attaches, found_counts, found_image, found_input, found_leaves, found_said, found_spared, found_syncs, found_trust}
+use Rattle.volume_turns.specs.Causes.{Nothing}
 use Rattle.cfs_program.proofs.FoundLaws.{TellsFound}
 use Rattle.cfs_program.proofs.making.run_made_up.Goals as goal
 
@@ -20,7 +21,7 @@ returns-in-Ok g c =
     let x : RunsFound M c.args.path.now c.in-Ok.sectors a b z = record { finds = c.in-Ok.ensures.found; runs = does.ends.trust } in
     let made = Generate c.args.seed c.args.count in
     let counts = found_counts x status does.takes.counts in
-    let image : M.honest z → TellsFound false AreOfPage (Some c.args.count) (M.now a) (M.now z) status = λ h. found_image x false AreOfPage (Some c.args.count) status h (does.image h) in
+    let image : M.honest z → TellsFound Nothing AreOfPage (Some c.args.count) (M.now a) (M.now z) status = λ h. found_image x Nothing AreOfPage (Some c.args.count) status h (does.image h) in
     record {
       status = made_status status does.ends.status;
       complete = λ none. made_complete_is status does.ends.status (λ four. none.disk (counts.disk four)) (λ six. none.output (counts.output six));

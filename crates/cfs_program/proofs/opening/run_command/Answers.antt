@@ -1,4 +1,4 @@
-use Rattle.std.proofs.Common.{None, false, inl, ◌∙◌, [], arith}
+use Rattle.std.proofs.Common.{None, inl, ◌∙◌, [], arith}
 use Rattle.fsd_runs.specs.declared.request.Request.TheVariants.{One}
 use Rattle.volume_turns.proofs.AnsweringLaws.{one_since}
 use Rattle.volume_turns.specs.Commands.{MayLose}
@@ -6,6 +6,7 @@ use Rattle.volume_turns.proofs.SayLaws.{timed_by}
 use Rattle.volume_turns.proofs.StatusLaws.{one_not_five}
 use Rattle.cfs_program.proofs.AmongLaws.{command_complete, command_status}
 use Rattle.cfs_program.proofs.AttachLaws.{RunsFound, found_accepted, found_attaches, found_counts, found_heals, found_image, found_input, found_leaves, found_said, found_spared, found_syncs, found_trust}
+use Rattle.volume_turns.specs.Causes.{Nothing}
 use Rattle.cfs_program.proofs.FoundLaws.{TellsFound, writes_found}
 use Rattle.cfs_program.proofs.opening.run_command.Goals as goal
 
@@ -21,7 +22,7 @@ returns-in-Ok g c =
     let x : RunsFound M c.args.path.now c.in-Ok.sectors a b z = record { finds = c.in-Ok.ensures.found; runs = does.ends.trust } in
     let command = c.args.c.now in
     let counts = found_counts x status does.takes.counts in
-    let image : M.honest z → TellsFound false (MayLose command) None (M.now a) (M.now z) status = λ h. found_image x false (MayLose command) None status h (does.image h) in
+    let image : M.honest z → TellsFound Nothing (MayLose command) None (M.now a) (M.now z) status = λ h. found_image x Nothing (MayLose command) None status h (does.image h) in
     record {
       status = command_status command status does.ends.status;
       complete = λ none. command_complete command status does.ends.status (λ four. none.disk (counts.disk four)) (λ six. none.output (counts.output six));

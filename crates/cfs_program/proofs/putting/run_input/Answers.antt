@@ -1,4 +1,4 @@
-use Rattle.std.proofs.Common.{None, false, ◌≤◌, inl, length, List, ℕ, subst, arith}
+use Rattle.std.proofs.Common.{None, ◌≤◌, inl, length, List, ℕ, subst, arith}
 use Rattle.fsd_texts.specs.Script.{max_input}
 use Rattle.fsd_texts.specs.declared.command.Command.TheVariants as Word
 use Rattle.fsd_runs.specs.declared.request.Request.TheVariants.{Put}
@@ -9,6 +9,7 @@ use Rattle.volume_turns.proofs.SayLaws.{timed_by}
 use Rattle.scrub.specs.Telling.{AreOfPage}
 use Rattle.cfs_program.proofs.AmongLaws.{put_complete_is, put_status}
 use Rattle.cfs_program.proofs.AttachLaws.{RunsFound, found_accepted, found_attaches, found_fails, found_image, found_input, found_leaves, found_reading, found_said, found_says_input, found_syncs, found_trust}
+use Rattle.volume_turns.specs.Causes.{Nothing}
 use Rattle.cfs_program.proofs.FoundLaws.{TellsFound}
 use Rattle.cfs_program.proofs.putting.run_input.Goals as goal
 
@@ -23,7 +24,7 @@ returns-in-Ok g c =
     let status = c.run_put.result in
     let x : RunsFound M c.args.path.now c.in-Ok.sectors a b z = record { finds = c.in-Ok.ensures.found; runs = does.ends.trust } in
     let counts = found_reading x status does.takes.counts in
-    let image : M.honest z → TellsFound false AreOfPage None (M.now a) (M.now z) status = λ h. found_image x false AreOfPage None status h (does.image h) in
+    let image : M.honest z → TellsFound Nothing AreOfPage None (M.now a) (M.now z) status = λ h. found_image x Nothing AreOfPage None status h (does.image h) in
     record {
       status = put_status status does.ends.status;
       complete = λ none. put_complete_is status does.ends.status (λ four. none.disk (counts.disk four)) (λ six. none.output (counts.output six));

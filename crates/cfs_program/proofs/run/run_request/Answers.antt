@@ -31,6 +31,12 @@ returns-in-Script g c = rw c.in-Script.is c.run_commands.ensures
 pub returns-in-Generate : goal.returns-in-Generate
 returns-in-Generate g c = rw c.in-Generate.is c.run_made_up.ensures
 
+pub returns-in-Dump : goal.returns-in-Dump
+returns-in-Dump g c = rw c.in-Dump.is c.run_dump_of.ensures
+
+pub returns-in-Restore : goal.returns-in-Restore
+returns-in-Restore g c = rw c.in-Restore.is c.run_restore_of.ensures
+
 pub returns-in-Drill : goal.returns-in-Drill
 returns-in-Drill g c =
     rw c.in-Drill.is (ran_drill g.M.Machine c.args.path.now c.args.m.now c.run_drill.new.m c.run_drill.result c.run_drill.ensures)

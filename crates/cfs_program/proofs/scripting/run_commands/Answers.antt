@@ -10,6 +10,7 @@ use Rattle.volume_turns.proofs.SayLaws.{timed_by}
 use Rattle.scrub.specs.Telling.{AreOfPage}
 use Rattle.cfs_program.proofs.AmongLaws.{script_complete_is, script_low, script_status}
 use Rattle.cfs_program.proofs.AttachLaws.{RunsFound, found_accepted, found_attaches, found_fails, found_image, found_input, found_later, found_leaves, found_reading, found_said, found_says_input, found_syncs, found_trust}
+use Rattle.volume_turns.specs.Causes.{Replies}
 use Rattle.cfs_program.proofs.FoundLaws.{TellsFound}
 use Rattle.cfs_program.proofs.scripting.run_commands.Goals as goal
 
@@ -24,7 +25,7 @@ returns-in-Ok g c =
     let status = c.run_script.result in
     let x : RunsFound M c.args.path.now c.in-Ok.sectors a b z = record { finds = c.in-Ok.ensures.found; runs = does.ends.trust } in
     let counts = found_reading x status does.takes.counts in
-    let image : M.honest z → TellsFound true AreOfPage None (M.now a) (M.now z) status = λ h. found_image x true AreOfPage None status h (does.image h) in
+    let image : M.honest z → TellsFound Replies AreOfPage None (M.now a) (M.now z) status = λ h. found_image x Replies AreOfPage None status h (does.image h) in
     record {
       status = script_status status does.ends.status;
       complete = λ none. script_complete_is status does.ends.status (λ four. none.disk (counts.disk four)) (λ six. none.output (counts.output six));

@@ -12,5 +12,6 @@ returns-clause-keeps c = keep_kept
 
 pub returns-clause-moves : goal.returns-clause-moves
 returns-clause-moves c = move_kept
+
 pub returns-clause-loads : goal.returns-clause-loads
 returns-clause-loads c = load_kept

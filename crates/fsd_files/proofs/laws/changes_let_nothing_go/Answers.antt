@@ -16,5 +16,6 @@ returns-clause-forces c = forced_is_spaced
 
 pub returns-clause-moves : goal.returns-clause-moves
 returns-clause-moves c = move_changes
+
 pub returns-clause-loads : goal.returns-clause-loads
 returns-clause-loads c = load_changes

@@ -12,5 +12,6 @@ returns-clause-keeps c = keeps_listed
 
 pub returns-clause-moves : goal.returns-clause-moves
 returns-clause-moves c = moves_listed
+
 pub returns-clause-loads : goal.returns-clause-loads
 returns-clause-loads c = loads_listed

@@ -6,6 +6,7 @@ use Rattle.fsd_texts.specs.declared.counts.Counts.{Counts}
 use Rattle.fsd_texts.specs.declared.fault.Fault.{Fault}
 use Rattle.fsd_texts.specs.declared.fault.Fault.TheVariants as Ends
 use Rattle.scrub.specs.Telling.{AreOfPage}
+use Rattle.volume_turns.specs.Causes.{Nothing}
 use Rattle.volume_turns.specs.declared.turns.Halt.{Halt}
 use Rattle.volume_turns.specs.declared.turns.Halt.TheVariants.{Fault as Stopped}
 use Rattle.volume_turns.proofs.CauseLaws.{call_says}
@@ -123,7 +124,7 @@ returns-in-Err-Fault g c =
       };
       tells = λ h. record {
         says = λ three. let back = line.says.trust.honest h in
-            call_says false AreOfPage (g.V.Files.state c.args.v).layout (M.now a).said came.why at.speaks.fault (M.now p) (M.now b) status (at.forces.quiet back) (line.says.exit h).image (at.forces.image back) (line.ends h) three;
+            call_says Nothing AreOfPage (g.V.Files.state c.args.v).layout (M.now a).said came.why at.speaks.fault (M.now p) (M.now b) status (at.forces.quiet back) (line.says.exit h).image (at.forces.image back) (line.ends h) three;
         spent = λ nine. absurd (came.ensures.forces.unworn (ap ended (came.field-0-is ∙ ap (λ (w : Fault). Stopped w) (status_worn came.why status line.status nine))));
       };
       all = λ zero h. absurd (fault_not_zero came.why status line.status zero);

@@ -1,7 +1,7 @@
 use Rattle.std.proofs.Common.{ℕ, List, false, Some, subst}
 use Rattle.fsd_runs.specs.declared.request.Request.TheVariants.{Generate}
 use Rattle.scrub.specs.Telling.{AreOfPage}
-use Rattle.volume_turns.specs.Causes.{SaysMade}
+use Rattle.volume_turns.specs.Causes.{Nothing, SaysMade}
 use Rattle.volume_turns.proofs.BehindLaws.{RefusedBy, RunsOver, over_counts, over_image, over_leaves, over_said, over_trust, over_syncs, refused_counts, refused_image, refused_last, refused_leaves, refused_of, refused_trust, refused_syncs}
 use Rattle.volume_turns.proofs.GenerateLaws.{some_turn}
 use Rattle.volume_turns.proofs.NumberLaws.{new_may}
@@ -29,7 +29,7 @@ returns-in-Ok g c =
         ledger = λ t. over_syncs x t (does.takes.ledger t);
         counts = over_counts x does.takes.counts;
       };
-      image = λ h. over_image x false AreOfPage (Some c.args.count) c.generate_on.result h (does.tells h).says (λ nine. new_may c.args.count (g.V.Files.state c.in-Ok.v) e.opens.fresh ((does.tells h).spent nine));
+      image = λ h. over_image x Nothing AreOfPage (Some c.args.count) c.generate_on.result h (does.tells h).says (λ nine. new_may c.args.count (g.V.Files.state c.in-Ok.v) e.opens.fresh ((does.tells h).spent nine));
       all = λ zero h. subst (λ (before : List ℕ). SaysMade c.args.count before (M.now c.generate_on.new.m)) (over_said x h) (does.all zero h);
       leaves = λ h input rest was at held.
           over_leaves x g.V.Files.holds (Generate c.args.seed c.args.count) input rest was c.generate_on.result h does.ends.since (λ y t. g.met.M.Machine.counts_now y t) (timed_by M g.met.M.Machine.dated g.met.M.Machine.history g.met.M.Machine.counts_now g.met.M.Machine.only_now) held (e.sound (does.ends.run.trust.honest h) was.layout was.windows was.changes was.forced at)
@@ -55,7 +55,7 @@ returns-in-Err g c =
         ledger = λ t. refused_syncs x t (line.ledger t);
         counts = refused_counts x;
       };
-      image = refused_image x false AreOfPage (Some c.args.count);
+      image = refused_image x Nothing AreOfPage (Some c.args.count);
       all = λ zero h. absurd (fault_not_zero why status line.status zero);
       leaves = λ h input rest was at held.
           refused_leaves x g.V.Files.state g.V.Files.holds (Generate c.args.seed c.args.count) input rest was h (g.met.M.Machine.short c.mount.new.m) (λ y t. g.met.M.Machine.counts_now y t)

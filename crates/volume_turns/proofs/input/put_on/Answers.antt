@@ -6,6 +6,7 @@ use Rattle.fsd_texts.specs.declared.fault.Fault.TheVariants as Ends
 use Rattle.fsd_texts.specs.Script.{max_input}
 use Rattle.fsd_runs.specs.declared.request.Request.TheVariants.{Put}
 use Rattle.scrub.specs.Telling.{AreOfPage}
+use Rattle.volume_turns.specs.Causes.{Nothing}
 use Rattle.volume_turns.specs.Answering.{SaysOne}
 use Rattle.volume_turns.specs.Whole.{RunsOut}
 use Rattle.volume_turns.proofs.AnsweringLaws.{fault_alone, no_reply_since, one_since}
@@ -51,7 +52,7 @@ returns-in-Ok g c =
       };
       whole = λ low t. record { whole = (does.takes.ledger t).input ∙ came.end (does.ends.trust.tells t); few = subst (λ (x : List ℕ). length x ≤ max_input) (came.whole (does.ends.trust.tells t)) came.few };
       tells = λ h. record {
-        says = λ three. call_since false AreOfPage layout (M.now a).said (M.now m).said (M.now b) (read.exit (does.ends.trust.honest h)).said ((does.tells h).says three);
+        says = λ three. call_since Nothing AreOfPage layout (M.now a).said (M.now m).said (M.now b) (read.exit (does.ends.trust.honest h)).said ((does.tells h).says three);
         spent = λ nine. (does.tells h).spent nine;
       };
       one = λ h none. let back = does.ends.trust.honest h in
@@ -100,7 +101,7 @@ returns-in-Err-TooLong g c =
       };
       whole = λ low t. absurd (does.ends.run.status.unmade low);
       tells = λ h. record {
-        says = λ three. call_since false AreOfPage layout (M.now a).said (M.now m).said (M.now b) (read.exit (does.ends.run.trust.honest h)).said (does.says three h);
+        says = λ three. call_since Nothing AreOfPage layout (M.now a).said (M.now m).said (M.now b) (read.exit (does.ends.run.trust.honest h)).said (does.says three h);
         spent = λ nine. does.ends.run.status.unspent nine;
       };
       one = λ h none. inr (no_reply_since (M.now a) (M.now m) (M.now b) status (read.exit (does.ends.run.trust.honest h)).said (does.fault h));

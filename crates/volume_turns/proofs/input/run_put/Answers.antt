@@ -3,6 +3,7 @@ use Rattle.fsd_texts.specs.Script.{max_input}
 use Rattle.fsd_texts.specs.declared.command.Command.TheVariants as Word
 use Rattle.fsd_runs.specs.declared.request.Request.TheVariants.{Put}
 use Rattle.scrub.specs.Telling.{AreOfPage}
+use Rattle.volume_turns.specs.Causes.{Nothing}
 use Rattle.volume_turns.specs.Answering.{SaysOne}
 use Rattle.volume_turns.specs.Whole.{RunsOut}
 use Rattle.volume_turns.proofs.AnsweringLaws.{one_since}
@@ -36,7 +37,7 @@ returns-in-Ok g c =
         fails = λ five h. over_says_input x (g.met.M.Machine.honest_tells c.put_on.new.m h) (does.takes.fails five h);
       };
       whole = λ low t. record { whole = (does.whole low t).whole; few = subst (λ (input : List ℕ). length input ≤ max_input) (over_input x t) (does.whole low t).few };
-      image = λ h. over_image x false AreOfPage None c.put_on.result h (does.tells h).says (does.tells h).spent;
+      image = λ h. over_image x Nothing AreOfPage None c.put_on.result h (does.tells h).says (does.tells h).spent;
       one = λ h.
           subst (λ (input : List ℕ). SaysOne (Word.Put c.args.name input c.args.keep) (M.now c.args.m.now) (M.now c.put_on.new.m) c.put_on.result) (over_input x (g.met.M.Machine.honest_tells c.put_on.new.m h))
           (one_since _ (M.now c.args.m.now) (M.now c.mount.new.m) (M.now c.put_on.new.m) c.put_on.result (over_said x h) (does.one h e.opens.fresh.dirty));
@@ -68,7 +69,7 @@ returns-in-Err g c =
         fails = λ five h. absurd (fault_not_five why status (refused_of x) line.status five);
       };
       whole = λ low t. absurd (fault_not_low why status line.status low);
-      image = refused_image x false AreOfPage None;
+      image = refused_image x Nothing AreOfPage None;
       one = λ h. inr (refused_alone x h);
       leaves = λ h was at held.
           refused_leaves x g.V.Files.state g.V.Files.holds (Put c.args.name c.args.keep) (M.ledger c.args.m.now).input (M.ledger c.end_with.new.m).input was h (g.met.M.Machine.short c.mount.new.m) (λ y t. g.met.M.Machine.counts_now y t)

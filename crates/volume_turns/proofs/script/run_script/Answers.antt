@@ -4,6 +4,7 @@ use Rattle.fsd_texts.specs.Script.{max_input, script_in}
 use Rattle.fsd_runs.specs.Commands.{reply_text}
 use Rattle.fsd_runs.specs.declared.request.Request.TheVariants.{Script}
 use Rattle.scrub.specs.Telling.{AreOfPage}
+use Rattle.volume_turns.specs.Causes.{Replies}
 use Rattle.volume_turns.specs.Each.{SaysBadLine, SaysForced}
 use Rattle.volume_turns.specs.Whole.{RunsOut}
 use Rattle.volume_turns.proofs.BehindLaws.{RefusedBy, RunsOver, over_attaches, over_fails, over_image, over_input, over_leaves, over_said, over_says_input, over_taking, over_trust, refused_image, refused_last, refused_leaves, refused_of, refused_taking, refused_trust, refused_syncs}
@@ -51,7 +52,7 @@ returns-in-Ok g c =
             (subst (λ (input : List ℕ). SaysForced reply_text (M.left_since b t) (script_in input).0 (M.now m).said (M.now b).said) (over_input x (g.met.M.Machine.honest_tells b h)) ((does.says h).all zero t (omega (arith, le, reached))));
       };
       whole = λ zero t. record { whole = (does.whole zero t).whole; spelled = subst (λ (input : List ℕ). (script_in input).1 ≡ Done) (over_input x t) (does.whole zero t).spelled };
-      image = λ h. over_image x true AreOfPage None c.script_on.result h (does.tells h).says (λ nine. let many = new_may (max_input + 1) (g.V.Files.state c.in-Ok.v) e.opens.fresh ((does.tells h).spent nine) in omega (arith, many));
+      image = λ h. over_image x Replies AreOfPage None c.script_on.result h (does.tells h).says (λ nine. let many = new_may (max_input + 1) (g.V.Files.state c.in-Ok.v) e.opens.fresh ((does.tells h).spent nine) in omega (arith, many));
       leaves = λ h was at held.
           over_leaves x g.V.Files.holds Script (M.ledger c.args.m.now).input (M.ledger b).input was c.script_on.result h does.ends.since (λ y t. g.met.M.Machine.counts_now y t) (timed_by M g.met.M.Machine.dated g.met.M.Machine.history g.met.M.Machine.counts_now g.met.M.Machine.only_now) held (e.sound (does.ends.run.trust.honest h) was.layout was.windows was.changes was.forced at)
           (λ k none idle stands disk. subst (λ (input : List ℕ). RunsOut M Script input (M.ledger b).input (M.report m) k m b c.script_on.result) (over_input x (g.met.M.Machine.honest_tells b h)) (does.runs h k idle stands disk));
@@ -84,7 +85,7 @@ returns-in-Err g c =
         all = λ zero t le. absurd (fault_not_zero why status line.status zero);
       };
       whole = λ zero t. absurd (fault_not_zero why status line.status zero);
-      image = refused_image x true AreOfPage None;
+      image = refused_image x Replies AreOfPage None;
       leaves = λ h was at held.
           refused_leaves x g.V.Files.state g.V.Files.holds Script (M.ledger c.args.m.now).input (M.ledger c.end_with.new.m).input was h (g.met.M.Machine.short c.mount.new.m) (λ y t. g.met.M.Machine.counts_now y t)
           (timed_by M g.met.M.Machine.dated g.met.M.Machine.history g.met.M.Machine.counts_now g.met.M.Machine.only_now) at held (e.sound (line.says.trust.honest h) was.layout was.windows was.changes was.forced at) (some_forced (M.ledger c.args.m.now).input) (λ Passed base v i none. tt);

@@ -1,6 +1,7 @@
 use Rattle.std.proofs.Common.{false, inl, inr, Err, refl, ap, arith}
 use Rattle.sector_disk.proofs.Holding.{trusts_on}
 use Rattle.fsd_texts.specs.declared.fault.Fault.{Fault}
+use Rattle.volume_turns.specs.Causes.{Nothing}
 use Rattle.volume_turns.specs.declared.turns.Halt.TheVariants.{Fault as Stopped}
 use Rattle.volume_turns.specs.Commands.{MayLose}
 use Rattle.volume_turns.proofs.AnsweringLaws.{one_failed, one_replied, one_unheard}
@@ -70,7 +71,7 @@ returns-in-Err-Fault g c =
       };
       tells = λ h. record {
         says = λ three. let ended = does.answers (line.says.trust.honest h) in
-            call_says false (MayLose c.args.c.now) s.layout (M.now a).said came.why does.speaks.fault (M.now p) (M.now b) status ended.quiet (line.says.exit h).image (ended.told came.why refl) (line.ends h) three;
+            call_says Nothing (MayLose c.args.c.now) s.layout (M.now a).said came.why does.speaks.fault (M.now p) (M.now b) status ended.quiet (line.says.exit h).image (ended.told came.why refl) (line.ends h) three;
         spent = λ nine.
             let worn = (does.answers (line.says.trust.honest h)).worn (ap (λ (w : Fault). Err (Stopped w)) (status_worn came.why status line.status nine)) in
             cc (worn, c.requires.unworn);

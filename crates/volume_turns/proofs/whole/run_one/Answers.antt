@@ -1,5 +1,6 @@
 use Rattle.std.proofs.Common.{false, None, []}
 use Rattle.fsd_runs.specs.declared.request.Request.TheVariants.{One}
+use Rattle.volume_turns.specs.Causes.{Nothing}
 use Rattle.volume_turns.specs.Commands.{MayLose}
 use Rattle.volume_turns.proofs.OneLaws.{some_one}
 use Rattle.volume_turns.proofs.BehindLaws.{RefusedBy, RunsOver, over_counts, over_heals, over_image, over_leaves, over_one, over_trust, over_syncs, refused_counts, refused_image, refused_last, refused_leaves, refused_of, refused_one, refused_trust, refused_syncs}
@@ -28,7 +29,7 @@ returns-in-Ok g c =
         ledger = λ t. over_syncs x t (does.takes.ledger t);
         counts = over_counts x does.takes.counts;
       };
-      image = λ h. over_image x false (MayLose c.args.c.now) None c.one_on.result h (λ three. (does.tells h).says three) (λ nine. (does.tells h).spent nine);
+      image = λ h. over_image x Nothing (MayLose c.args.c.now) None c.one_on.result h (λ three. (does.tells h).says three) (λ nine. (does.tells h).spent nine);
       one = λ h. over_one x c.args.c.now c.one_on.result h (does.one h e.opens.fresh.dirty).one;
       healed = λ h. over_heals x g.V.Files.holds c.args.c.now c.one_on.result h does.since (timed_by M g.met.M.Machine.dated g.met.M.Machine.history g.met.M.Machine.counts_now g.met.M.Machine.only_now)
           (λ was. e.sound (does.ends.trust.honest h) was.layout was.windows was.changes was.forced) e.opens.counted (does.one h e.opens.fresh.dirty);
@@ -56,7 +57,7 @@ returns-in-Err g c =
         ledger = λ t. refused_syncs x t (line.ledger t);
         counts = refused_counts x;
       };
-      image = refused_image x false (MayLose c.args.c.now) None;
+      image = refused_image x Nothing (MayLose c.args.c.now) None;
       one = refused_one x c.args.c.now;
       healed = λ h of. absurd (fault_unhealed why status line.status of);
       leaves = λ h rest was at held.

@@ -9,15 +9,16 @@ use Rattle.fsd_files.specs.Files.{Change}
 use Rattle.volume_contract.specs.Ends.{EndsPut, device_of}
 use Rattle.volume_contract.specs.Order.{Follows, KeepsRefused, put_steps}
 use Rattle.volume_contract.specs.State.{Counted, GoesOn, HasCounted, Leaves, downs, forces_first, forces_for_place, put_len, put_writes, volume_of}
+use Rattle.volume_laws.specs.Entered.{entering_asks}
 use Rattle.volume_laws.specs.Placing.{IsPlace, store_steps}
 use Rattle.volume_laws.specs.State.{IsMemoryOf, resident, state}
 use Rattle.volume_laws.proofs.BehindForce.{change_counts, is_up}
 use Rattle.volume_laws.proofs.BehindLaws.{causes_behind}
 use Rattle.volume_laws.proofs.CauseLaws.{handed_cause}
-use Rattle.volume_laws.proofs.NoPlaceLaws.{ends_as_put}
+use Rattle.volume_laws.proofs.NoPlaceLaws.{ends_unready}
 use Rattle.volume_laws.proofs.PrepareLaws.{last}
-use Rattle.volume_laws.proofs.PutEnds.{keep_small, leaves_entering, length_small, number_ready, put_counts, put_ends, put_goes, layout_stays, slots_stay, serials_left, up_ready}
-use Rattle.volume_laws.proofs.PutLaws.{ends_tested, prepare_idle, prepared_kept, prepared_order, put_order, tested_kept, tested_order}
+use Rattle.volume_laws.proofs.PutEnds.{enter_keeps, keep_small, leaves_entering, length_small, number_ready, put_counts, put_ends, put_goes, layout_stays, slots_stay, serials_left, up_ready}
+use Rattle.volume_laws.proofs.PutLaws.{ends_tested, prepare_idle, prepared_kept, prepared_order, put_order, put_placeless, put_sizes, tested_kept, tested_order}
 use Rattle.volume_laws.proofs.RangeLaws.{handed}
 use Rattle.volume_laws.proofs.StepLaws.{idle_front}
 use Rattle.volume_laws.proofs.StoreLaws.{busy_store, touches_read}
@@ -35,7 +36,7 @@ returns-in_err-may_put-clause-order g c =
     let why = c.in_err-may_put.field-0.0 in
     let back = c.from_residual in
     record {
-      follows = handed (Follows (put_steps s c.args.keep len)) back.result why back.ensures.1 (tested_order s c.args.keep len why c.in_err-may_put.ensures);
+      follows = handed (Follows (put_steps s c.args.keep len)) back.result why back.ensures.1 (tested_order entering_asks s c.args.keep len why c.in_err-may_put.ensures);
       idle = λ idle. refl;
     }
 
@@ -68,7 +69,7 @@ returns-in_err-may_put-clause-keeps g c =
     record {
       state = record { layout = refl; epoch = refl; unfinished = refl; readers = refl; down = inl refl };
       kept = handed (λ r. MatchResult r (λ key. HasCounted true (forces_for_place s (sectors_for len) || forces_first s) s s) (λ x. KeepsRefused (put_steps s c.args.keep len) x s s)) back.result why back.ensures.1
-          (tested_kept s c.args.keep len why c.in_err-may_put.ensures);
+          (tested_kept entering_asks s c.args.keep len why c.in_err-may_put.ensures);
     }
 
 pub returns-in_err-may_put-clause-tells : goal.returns-in_err-may_put-clause-tells
@@ -92,7 +93,7 @@ returns-in_err-may_put-clause-done g c h k stands =
     let now = g.M.Machine.now c.args.m.now in
     let why = c.in_err-may_put.field-0.0 in
     handed (EndsPut state IsMemoryOf (λ met. put_outcome met (volume_of k) name bytes keep) bytes (Change.Put name keep bytes) k v now) c.from_residual.result why c.from_residual.ensures.1
-    (ends_tested v name bytes keep k now why c.in_err-may_put.ensures stands)
+    (ends_tested v keep (length bytes) k (λ met. put_outcome met (volume_of k) name bytes keep) (put_sizes name bytes keep k) now why c.in_err-may_put.ensures stands)
 
 -- ---- it is not prepared
 
@@ -114,8 +115,8 @@ returns-in_err-draft-clause-order g c =
     let failed = c.in_err-draft.ensures in
     let back = c.from_residual-in_err-draft in
     record {
-      follows = handed (Follows (put_steps s c.args.keep len)) back.result why back.ensures.1 (prepared_order s c.args.keep len tests why failed.keeps.prepares.order);
-      idle = λ idle. failed.tells.idle (prepare_idle s c.args.keep len tests idle);
+      follows = handed (Follows (put_steps s c.args.keep len)) back.result why back.ensures.1 (prepared_order entering_asks s c.args.keep len tests why failed.keeps.prepares.order);
+      idle = λ idle. failed.tells.idle (prepare_idle entering_asks s c.args.keep len tests idle);
     }
 
 pub returns-in_err-draft-clause-disk : goal.returns-in_err-draft-clause-disk
@@ -142,7 +143,7 @@ returns-in_err-draft-clause-keeps g c =
     record {
       state = handed (λ r. GoesOn (downs r) s t) back.result why back.ensures.1 failed.keeps.prepares.state;
       kept = handed (λ r. MatchResult r (λ key. HasCounted true (forces_for_place s (sectors_for len) || forces_first s) s t) (λ x. KeepsRefused (put_steps s c.args.keep len) x s t)) back.result why back.ensures.1
-          (prepared_kept s c.args.keep len tests t why failed.keeps.prepares.kept);
+          (prepared_kept entering_asks s c.args.keep len tests t why failed.keeps.prepares.kept);
     }
 
 pub returns-in_err-draft-clause-tells : goal.returns-in_err-draft-clause-tells
@@ -164,7 +165,7 @@ returns-in_err-draft-clause-done g c h k stands =
     let now = g.M.Machine.now c.prepared.new.m in
     let why = c.in_err-draft.field-0.0 in
     handed (EndsPut state IsMemoryOf (λ met. put_outcome met (volume_of k) name bytes keep) bytes (Change.Put name keep bytes) k new now) c.from_residual-in_err-draft.result why c.from_residual-in_err-draft.ensures.1
-    (ends_as_put (state c.args.self.now) name bytes keep k new now c.in_ok-may_put.ensures.1.0 stands.fits why c.in_err-draft.ensures.keeps.prepares.order (c.in_err-draft.ensures.done h k stands))
+    (ends_unready (state c.args.self.now) bytes k new now (λ met. put_outcome met (volume_of k) name bytes keep) (put_placeless name bytes keep k c.in_ok-may_put.ensures.1.0) stands.fits why c.in_err-draft.ensures.keeps.prepares.order (c.in_err-draft.ensures.done h k stands))
 
 -- ---- it is prepared
 
@@ -188,9 +189,9 @@ returns-clause-order g c =
     let len = length c.args.bytes.now in
     let prepares = c.in_ok-draft.ensures.keeps.prepares in
     record {
-      follows = put_order s c.args.keep len c.in_ok-may_put.ensures (state c.prepared.new.self) prepares.kept.went c.entered.result c.entered.ensures.order;
+      follows = put_order entering_asks s c.args.keep len c.in_ok-may_put.ensures (state c.prepared.new.self) prepares.kept.went c.entered.result c.entered.ensures.order;
       idle = λ idle.
-          absurd (busy_store s (sectors_for len) (prepares.order.1).0 (idle_front (store_steps s (sectors_for len)) (last s (sectors_for len) ∷ []) (prepare_idle s c.args.keep len c.in_ok-may_put.ensures idle)));
+          absurd (busy_store s (sectors_for len) (prepares.order.1).0 (idle_front (store_steps s (sectors_for len)) (last s (sectors_for len) ∷ []) (prepare_idle entering_asks s c.args.keep len c.in_ok-may_put.ensures idle)));
     }
 
 pub returns-clause-disk : goal.returns-clause-disk
@@ -234,7 +235,7 @@ returns-clause-keeps g c =
     let entered = c.entered.ensures in
     record {
       state = put_goes s mid c.args.keep len tests e prepares new c.entered.result entered.enters;
-      kept = put_counts s mid c.args.keep len tests e prepares new c.entered.result entered.order entered.enters;
+      kept = put_counts s mid c.args.keep len tests e prepares new entering_asks (enter_keeps mid) c.entered.result entered.order entered.enters;
     }
 
 pub returns-clause-tells : goal.returns-clause-tells

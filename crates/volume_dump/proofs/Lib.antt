@@ -1,0 +1,10 @@
+pub mod ToldLaws
+pub mod TextLaws
+pub mod SaidLaws
+pub mod EntryLaws
+pub mod SurveyLaws
+pub mod OneLaws
+pub mod RowLaws
+pub mod DumpLaws
+pub mod WholeLaws
+pub mod EndLaws

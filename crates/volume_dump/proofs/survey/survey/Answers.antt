@@ -1,0 +1,21 @@
+use Rattle.std.proofs.Common.{ap}
+use Rattle.volume_contract.specs.State.{State, volume_of}
+use Rattle.scrub.proofs.ToldLaws.{told_by}
+use Rattle.volume_dump.proofs.SurveyLaws.{survey_since}
+use Rattle.volume_dump.proofs.survey.survey.Goals as goal
+
+pub returns-in-Ok-clause-done : goal.returns-in-Ok-clause-done
+returns-in-Ok-clause-done g c = λ h k stands.
+    let now = g.M.Machine.now in
+    let next = c.in-Ok.ensures in
+    let call = c.survey_all.ensures in
+    let back = call.reads.disk.trust.honest h in
+    survey_since _ (now c.args.m.now).image (now c.next_one.new.m).image (now c.survey_all.new.m).image (next.reads.disk.worn back).image c.args.since (volume_of k).entries c.survey_all.new.found.items c.survey_all.result
+    (call.done h k (next.reads.stands back k stands))
+
+pub returns-in-Err-clause-told : goal.returns-in-Err-clause-told
+returns-in-Err-clause-told g c = λ h.
+    let V = g.V.Files in
+    let now = g.M.Machine.now in
+    let e = c.in-Err.ensures in
+    told_by (V.state c.args.v.now) (V.state c.next_one.new.v) (V.resident c.args.v.now) (now c.args.m.now) (now c.next_one.new.m) (ap (λ (s : State). s.layout) e.reads.same) c.in-Err.why (e.tells.causes h)
