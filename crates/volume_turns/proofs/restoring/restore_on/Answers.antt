@@ -7,6 +7,7 @@ use Rattle.fsd_runs.specs.declared.request.Request.TheVariants.{Restore}
 use Rattle.scrub.specs.Telling.{AreOfPage}
 use Rattle.volume_turns.specs.Whole.{RunsOut}
 use Rattle.volume_turns.proofs.BeforeLaws.{stands_worn, worn_held}
+use Rattle.volume_turns.specs.Causes.{Nothing}
 use Rattle.volume_turns.proofs.CauseLaws.{call_since, says_input}
 use Rattle.volume_turns.proofs.LastLaws.{ends_fault}
 use Rattle.volume_turns.proofs.RestoreLaws.{new_unworn}
@@ -50,7 +51,7 @@ returns-in-Ok g c =
       };
       whole = λ low t. record { whole = (does.takes.ledger t).input ∙ came.end (does.ends.run.trust.tells t); few = subst (λ (x : List ℕ). length x ≤ max_input) (came.whole (does.ends.run.trust.tells t)) came.few };
       tells = λ h. record {
-        says = λ three. call_since false AreOfPage layout (M.now a).said (M.now m).said (M.now b) (read.exit (does.ends.run.trust.honest h)).said ((does.tells h).says three);
+        says = λ three. call_since Nothing AreOfPage layout (M.now a).said (M.now m).said (M.now b) (read.exit (does.ends.run.trust.honest h)).said ((does.tells h).says three);
         spent = λ nine. (does.tells h).spent nine;
       };
       runs = λ h k none idle stands on. let back = does.ends.run.trust.honest h in let short = g.met.M.Machine.short a (read.trust.honest back) in
@@ -95,7 +96,7 @@ returns-in-Err-TooLong g c =
       };
       whole = λ low t. absurd (does.ends.run.status.unmade low);
       tells = λ h. record {
-        says = λ three. call_since false AreOfPage layout (M.now a).said (M.now m).said (M.now b) (read.exit (does.ends.run.trust.honest h)).said (does.says three h);
+        says = λ three. call_since Nothing AreOfPage layout (M.now a).said (M.now m).said (M.now b) (read.exit (does.ends.run.trust.honest h)).said (does.says three h);
         spent = λ nine. does.ends.run.status.unspent nine;
       };
       runs = λ h k none idle stands on. let back = does.ends.run.trust.honest h in let short = g.met.M.Machine.short a (read.trust.honest back) in

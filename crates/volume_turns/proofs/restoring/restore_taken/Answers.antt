@@ -6,6 +6,7 @@ use Rattle.fsd_runs.specs.Errands.{restore_of}
 use Rattle.scrub.specs.Telling.{AreOfPage}
 use Rattle.volume_contract.specs.State.{volume_of}
 use Rattle.volume_turns.specs.declared.turns.Halt.TheVariants.{Fault as Stopped}
+use Rattle.volume_turns.specs.Causes.{Nothing}
 use Rattle.volume_turns.proofs.CauseLaws.{call_says}
 use Rattle.volume_turns.proofs.LastLaws.{ends_fault, fault_not, reply_not, told_place}
 use Rattle.volume_turns.proofs.NumberLaws.{ended}
@@ -77,7 +78,7 @@ returns-in-Err-Fault g c =
       };
       tells = λ h. record {
         says = λ three. let back = line.says.trust.honest h in
-            call_says false AreOfPage s.layout (M.now a).said came.why speaks.fault (M.now p) (M.now b) status (does.calls.quiet back) (line.says.exit h).image (does.calls.image back) (line.ends h) three;
+            call_says Nothing AreOfPage s.layout (M.now a).said came.why speaks.fault (M.now p) (M.now b) status (does.calls.quiet back) (line.says.exit h).image (does.calls.image back) (line.ends h) three;
         spent = λ nine. does.calls.unworn (ap (λ (w : Fault). ended (Stopped w)) (status_worn came.why status line.status nine)) (line.says.trust.honest h);
       };
       runs = λ h rest k none stands disk. let back = line.says.trust.honest h in

@@ -3,6 +3,7 @@ use Rattle.fsd_texts.specs.Script.{max_input}
 use Rattle.fsd_runs.specs.declared.request.Request.TheVariants.{Restore}
 use Rattle.scrub.specs.Telling.{AreOfPage}
 use Rattle.volume_turns.specs.Whole.{RunsOut}
+use Rattle.volume_turns.specs.Causes.{Nothing}
 use Rattle.volume_turns.proofs.BehindLaws.{RefusedBy, RunsOver, over_attaches, over_fails, over_image, over_input, over_leaves, over_says_input, over_taking, over_trust, refused_image, refused_last, refused_leaves, refused_of, refused_taking, refused_trust, refused_syncs}
 use Rattle.volume_turns.proofs.RestoreOutLaws.{some_turn}
 use Rattle.volume_turns.proofs.SayLaws.{timed_by}
@@ -29,7 +30,7 @@ returns-in-Ok g c =
         fails = λ five h. over_says_input x (g.met.M.Machine.honest_tells c.restore_on.new.m h) (does.takes.fails five h);
       };
       whole = λ low t. record { whole = (does.whole low t).whole; few = subst (λ (input : List ℕ). length input ≤ max_input) (over_input x t) (does.whole low t).few };
-      image = λ h. over_image x false AreOfPage (Some max_input) c.restore_on.result h (does.tells h).says (λ nine. absurd ((does.tells h).spent nine));
+      image = λ h. over_image x Nothing AreOfPage (Some max_input) c.restore_on.result h (does.tells h).says (λ nine. absurd ((does.tells h).spent nine));
       leaves = λ h was at held.
           over_leaves x g.V.Files.holds Restore (M.ledger c.args.m.now).input (M.ledger c.restore_on.new.m).input was c.restore_on.result h does.ends.since (λ y t. g.met.M.Machine.counts_now y t) (timed_by M g.met.M.Machine.dated g.met.M.Machine.history g.met.M.Machine.counts_now g.met.M.Machine.only_now) held (e.sound (does.ends.run.trust.honest h) was.layout was.windows was.changes was.forced at)
           (λ k none idle stands disk. subst (λ (input : List ℕ). RunsOut M Restore input (M.ledger c.restore_on.new.m).input (M.report c.mount.new.m) k c.mount.new.m c.restore_on.new.m c.restore_on.result) (over_input x (g.met.M.Machine.honest_tells c.restore_on.new.m h)) (does.runs h k none idle stands disk));
@@ -58,7 +59,7 @@ returns-in-Err g c =
         fails = λ five h. absurd (fault_not_five why status (refused_of x) line.status five);
       };
       whole = λ low t. absurd (fault_not_low why status line.status low);
-      image = refused_image x false AreOfPage (Some max_input);
+      image = refused_image x Nothing AreOfPage (Some max_input);
       leaves = λ h was at held.
           refused_leaves x g.V.Files.state g.V.Files.holds Restore (M.ledger c.args.m.now).input (M.ledger c.end_with.new.m).input was h (g.met.M.Machine.short c.mount.new.m) (λ y t. g.met.M.Machine.counts_now y t)
           (timed_by M g.met.M.Machine.dated g.met.M.Machine.history g.met.M.Machine.counts_now g.met.M.Machine.only_now) at held (e.sound (line.says.trust.honest h) was.layout was.windows was.changes was.forced at) (some_turn (M.ledger c.args.m.now).input) (λ Passed base v i none. refl);
