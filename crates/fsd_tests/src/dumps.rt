@@ -4,10 +4,12 @@ use std::alloc::{AllocError, Global};
 use std::test::Fail;
 
 // The dump of the version a!1 with the byte x, which the first mount has made.
-const ONE: &str = "CFSD\0\0\0\x01\0\0\0\x02\0\0\0\x01\x01a\0\0\0\x01\0\x02\0\0\0\0\x01xCFSE\0\0\0\x01";
+const ONE: &str =
+    "CFSD\0\0\0\x01\0\0\0\x02\0\0\0\x01\x01a\0\0\0\x01\0\x02\0\0\0\0\x01xCFSE\0\0\0\x01";
 
 // The same without its last byte.
-const CUT: &[u8] = b"CFSD\0\0\0\x01\0\0\0\x02\0\0\0\x01\x01a\0\0\0\x01\0\x02\0\0\0\0\x01xCFSE\0\0\0";
+const CUT: &[u8] =
+    b"CFSD\0\0\0\x01\0\0\0\x02\0\0\0\x01\x01a\0\0\0\x01\0\x02\0\0\0\0\x01xCFSE\0\0\0";
 
 // Behind its serial there is nothing.
 const BEHIND: &str = "CFSD\0\0\0\0\0\0\0\x02\0\0\0\x01CFSE\0\0\0\0";
@@ -79,6 +81,9 @@ fn dumps_are_said_and_restored(rt: HostRuntime) -> Result<(), Fail> {
 
 #[test]
 fn a_restore_keeps_what_comes_before_a_refusal(rt: HostRuntime) -> Result<(), Fail> {
-    assert_eq!(rt; wrong_on(rt.alloc(), "cfs format v 721 200 16", &FULL)?, None);
+    assert_eq!(rt;
+        wrong_on(rt.alloc(), "cfs format v 721 200 16", &FULL)?,
+        None
+    );
     Ok(())
 }
