@@ -11,7 +11,7 @@ ghost use Rattle.fsd_runs.specs.Errands.{restore_of, restoring, restoring_unless
 ghost use Rattle.fsd_runs.specs.declared.request.Request.TheVariants.{Restore};
 ghost use Rattle.volume_contract.specs.State.{IsNew, Known, Stands, forced_of, none_open, volume_of};
 ghost use Rattle.scrub.specs.Telling.{AreOfPage};
-ghost use Rattle.volume_turns.specs.Causes.{TellsImage};
+ghost use Rattle.volume_turns.specs.Causes.{Nothing, TellsImage};
 ghost use Rattle.volume_turns.specs.Line.{is_unsaid};
 ghost use Rattle.volume_turns.specs.Restore.{EndsSaying, IsRestoreStatus, LooksFor, Restores, none_unless};
 ghost use Rattle.volume_turns.specs.Steps.{ended_by};
@@ -165,7 +165,7 @@ fn restore_taken<M: Machine, V: Files<M> + Drop>(
     requires few { length input.now ≤ max_input }
     ensures ends { EndsMounted M.Machine IsRestoreStatus m.old m.new result }
     ensures takes { TakesNothing M.Machine m.old m.new result }
-    ensures tells { M.honest m.new → TellsMounted false AreOfPage (V.state v).layout ⊥ (M.now m.old) (M.now m.new) result }
+    ensures tells { M.honest m.new → TellsMounted Nothing AreOfPage (V.state v).layout ⊥ (M.now m.old) (M.now m.new) result }
     ensures runs { M.honest m.new → (rest : List ℕ) (k : Known) → k.opened ≡ none_open → Stands V.state V.holds v k (M.now m.old) → OnDisk M.Machine k (forced_of k) m.old → RunsOut M.Machine Restore input.now rest (M.report m.old) k m.old m.new result }
 {
     match restore_input(alloc, v, m, input) {
@@ -182,7 +182,7 @@ fn restore_on<M: Machine, V: Files<M> + Drop>(alloc: Global, v: V, m: &mut M) ->
     ensures ends { EndsMounted M.Machine IsPutStatus m.old m.new result }
     ensures takes { TakesInput M.Machine M.tells 1 m.old m.new result }
     ensures whole { result ≤ 1 → M.tells m.new → TakesToEnd (M.ledger m.old).input (M.ledger m.new).input }
-    ensures tells { M.honest m.new → TellsMounted false AreOfPage (V.state v).layout ⊥ (M.now m.old) (M.now m.new) result }
+    ensures tells { M.honest m.new → TellsMounted Nothing AreOfPage (V.state v).layout ⊥ (M.now m.old) (M.now m.new) result }
     ensures runs { M.honest m.new → (k : Known) → (volume_of k).unforced ≡ 0 → k.opened ≡ none_open → Stands V.state V.holds v k (M.now m.old) → OnDisk M.Machine k (forced_of k) m.old → RunsOut M.Machine Restore (M.ledger m.old).input (M.ledger m.new).input (M.report m.old) k m.old m.new result }
 {
     match read_input(alloc, m) {
@@ -201,7 +201,7 @@ pub fn run_restore<M: Machine, V: Files<M> + Drop>(alloc: Global, m: &mut M, sec
     ensures ends { EndsRun M.Machine IsPutStatus m.old m.new result }
     ensures takes { TakesInput M.Machine M.tells 1 m.old m.new result }
     ensures whole { result ≤ 1 → M.tells m.new → TakesToEnd (M.ledger m.old).input (M.ledger m.new).input }
-    ensures image { M.honest m.new → TellsImage false AreOfPage (Some max_input) sectors (M.now m.old) (M.now m.new) result }
+    ensures image { M.honest m.new → TellsImage Nothing AreOfPage (Some max_input) sectors (M.now m.old) (M.now m.new) result }
     ensures leaves { M.honest m.new → LeavesOver M.Machine Restore (M.ledger m.old).input (M.ledger m.new).input sectors m.old m.new result }
 {
     match V::mount(alloc, m, sectors) {
