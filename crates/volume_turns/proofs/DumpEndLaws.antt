@@ -121,7 +121,7 @@ module _ {D : Type 0} (M : Ghosts D) (s : State) (up : s.down ≡ None) (only : 
   abbrev Ended : Type 0
   Ended = EndsByText M a d b status ⊎ (EndsByFault M s.layout a d b status ⊎ EndsByOutput M a d b status)
 
-  ends_refused : (why : Refusal) → IsOfDump why → ReadsAndSays M (device_in_dump (Err (Faults.Refused why))) false R a d → (M.honest d → TellsDump s.layout (M.now d).image (Err (Faults.Refused why))) → EndsBehind M (Err (Faults.Refused why)) d b status → Ended
+  ends_refused : (why : Refusal) → IsOfDump why → ReadsAndSays M (device_in_dump {T = ℕ} (Err (Faults.Refused why))) false R a d → (M.honest d → TellsDump {T = ℕ} s.layout (M.now d).image (Err (Faults.Refused why))) → EndsBehind M (Err (Faults.Refused why)) d b status → Ended
   ends_refused (Why.Device t) of disk told end = inr (inl (record { why = Ends.Device t; of = tt; unworn = λ nine. omega (arith, nine); counted = a_fault M R a d (Ends.Device t) disk; told = λ h. tt; end = end }))
   ends_refused (Why.Lost x y) of disk told end = inr (inl (record { why = Ends.Lost x y; of = tt; unworn = λ nine. omega (arith, nine); counted = a_fault M R a d (Ends.Lost x y) disk; told = told; end = end }))
   ends_refused (Why.Unsound t) of disk told end = inr (inl (record { why = Ends.Unsound t; of = tt; unworn = λ nine. omega (arith, nine); counted = a_fault M R a d (Ends.Unsound t) disk; told = told; end = end }))

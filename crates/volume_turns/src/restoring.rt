@@ -154,12 +154,7 @@ fn restore_input<M: Machine, V: Files<M> + Drop>(
 }
 
 // The same to the last line. It gives the status.
-fn restore_taken<M: Machine, V: Files<M> + Drop>(
-    alloc: Global,
-    v: V,
-    m: &mut M,
-    input: &[u8],
-) -> u8
+fn restore_taken<M: Machine, V: Files<M> + Drop>(alloc: Global, v: V, m: &mut M, input: &[u8]) -> u8
     requires room { (V.state v).layout.sectors ≤ (M.report m.old).sectors }
     requires new { IsNew (V.state v) }
     requires few { length input.now ≤ max_input }
