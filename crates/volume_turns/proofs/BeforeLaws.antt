@@ -59,9 +59,9 @@ module _ {S D : Type 0} (state : S → State) (has : S → Mounted → List Plac
   -- ---- what goes on from there
 
   module _ (unworn : is_worn (state v) ≡ false) where
-    goes_from : (P : Moment → Type 0) (Last : Volume → Image → Type 0) → ((x : Volume) → Last x (M.now m).image → Last x (M.now a).image) → (e : Errand) (said : List ℕ) (mets : List Meeting) (commands : List ScriptCommand)
+    goes_from : (P : Moment → Type 0) (Last : Volume → Image → Type 0) → (Last (volume_of k) (M.now m).image → Last (volume_of k) (M.now a).image) → (e : Errand) (said : List ℕ) (mets : List Meeting) (commands : List ScriptCommand)
         → Goes (in_runs k.windows) P Last e said (M.now m).image s mets commands → Goes (in_runs k.windows) P Last e said (M.now a).image s mets commands
-    goes_from P Last last e said [] commands goes = last (volume_of k) goes
+    goes_from P Last last e said [] commands goes = last goes
     goes_from P Last last e said (met ∷ mets) [] goes = absurd goes
     goes_from P Last last e said (met ∷ mets) (c ∷ commands) goes = (
       goes.0,
@@ -75,7 +75,7 @@ module _ {S D : Type 0} (state : S → State) (has : S → Mounted → List Plac
       goes.2,
     )
 
-    pub goes_before : (b : D) (Last : Volume → Image → Type 0) → ((x : Volume) → Last x (M.now m).image → Last x (M.now a).image) → (e : Errand) (mets : List Meeting)
+    pub goes_before : (b : D) (Last : Volume → Image → Type 0) → (Last (volume_of k) (M.now m).image → Last (volume_of k) (M.now a).image) → (e : Errand) (mets : List Meeting)
         → ((t : ℕ) → t ≤ M.moment m → Goes (in_runs k.windows) (M.left_since b t) Last e (M.now m).said (M.now m).image s mets e.commands) → (t : ℕ) → t ≤ M.moment a → Goes (in_runs k.windows) (M.left_since b t) Last e (M.now a).said (M.now a).image s mets e.commands
     goes_before b Last last e mets goes t le = let later = any_moment.later in
         subst (λ (x : List ℕ). Goes (in_runs k.windows) (M.left_since b t) Last e x (M.now a).image s mets e.commands) worn.said (goes_from (M.left_since b t) Last last e (M.now m).said mets e.commands (goes t (omega (arith, le, later))))
@@ -119,7 +119,7 @@ module _ {S D : Type 0} (state : S → State) (has : S → Mounted → List Plac
       abbrev Over : D → List Meeting → Type 0
       Over x mets = SaysOut M e k mets x b status ⊎ (IsUnsaid before (M.report b) status ⊎ IsBrokenOff request (Undone k (forced_of k) (turns_of e mets s)) (UnderWay M k (turns_of e mets s) b) before (M.report b) (turns_of e mets s) (M.now x) (M.now b) status)
 
-      ends_before : (mets : List Meeting) → Over m mets → Over a mets
+      pub ends_before : (mets : List Meeting) → Over m mets → Over a mets
       ends_before mets (inl out) = inl (out_before out)
       ends_before mets (inr (inl u)) = inr (inl u)
       ends_before mets (inr (inr x)) = inr (inr (record {
@@ -135,7 +135,7 @@ module _ {S D : Type 0} (state : S → State) (has : S → Mounted → List Plac
         undone = x.undone;
       }))
 
-      pub finishes_before : is_worn (state v) ≡ false → (Ahead : Session → Type 0) (Last : Volume → Image → Type 0) → ((x : Volume) → Last x (M.now m).image → Last x (M.now a).image) → Finishes M request e Ahead Last before k m b status → Finishes M request e Ahead Last before k a b status
+      abbrev pub finishes_before : is_worn (state v) ≡ false → (Ahead : Session → Type 0) (Last : Volume → Image → Type 0) → (Last (volume_of k) (M.now m).image → Last (volume_of k) (M.now a).image) → Finishes M request e Ahead Last before k m b status → Finishes M request e Ahead Last before k a b status
       finishes_before unworn Ahead Last last f = record { mets = f.mets; ahead = f.ahead; goes = goes_before unworn b Last last e f.mets f.goes; moments = stops_before (turns_of e f.mets s) f.moments; ends = ends_before f.mets f.ends }
 
   -- ---- it ends there
@@ -157,10 +157,10 @@ module _ {S D : Type 0} (state : S → State) (has : S → Mounted → List Plac
   -- by the line of a fault
   module _ (b : D) (request : Request) (e : Errand) (some : IsSome (slice_get (turns_of e [] s) 0)) (before : Report) (why : Fault) (may : MayEnd why) (out : IsOutside request before (M.report b) why) (later : before.output_faults ≤ (M.report m).output_faults)
       (status : ℕ) (says : LeavesDisk M false (is_unsaid status) (Utters (fault_text why)) m b) (honest : M.honest b) (at_b : IsTimed M b) (ended : EndsWith why (M.now m) (M.now b) status) where
-    short_there : AreShort (M.now m).windows
+    pub short_there : AreShort (M.now m).windows
     short_there = subst (λ (w : Windows). AreShort w) (sym worn.windows) short
 
-    pub finishes_ended : (Ahead : Session → Type 0) (Last : Volume → Image → Type 0) → Ahead s → Last (volume_of k) (M.now a).image → Finishes M request e Ahead Last before k a b status
+    abbrev pub finishes_ended : (Ahead : Session → Type 0) (Last : Volume → Image → Type 0) → Ahead s → Last (volume_of k) (M.now a).image → Finishes M request e Ahead Last before k a b status
     finishes_ended Ahead Last ahead last = record {
       mets = [];
       ahead = ahead;

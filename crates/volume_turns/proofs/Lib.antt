@@ -42,6 +42,8 @@ pub mod ReadLaws
 pub mod ReadingLaws
 pub mod ReasonLaws
 pub mod RestoreLaws
+pub mod RestoreOutLaws
+pub mod RestoreTakingLaws
 pub mod RunLaws
 pub mod SaidLaws
 pub mod SayLaws

@@ -89,7 +89,7 @@ module _ {S D : Type 0} (state : S → State) (has : S → Mounted → List Plac
     refused = r.refused;
     ended = record {
       mets = r.ended.mets;
-      goes = goes_before state has M v k a m wears short stands on at_a at_m worn since any_moment unworn b Anything (λ x so. tt) (cut_off (cut_at r.refused) e) r.ended.mets r.ended.goes;
+      goes = goes_before state has M v k a m wears short stands on at_a at_m worn since any_moment unworn b Anything (λ so. tt) (cut_off (cut_at r.refused) e) r.ended.mets r.ended.goes;
       moments = stops_before state has M v k a m wears short stands on at_a at_m worn since any_moment b (turns_of (cut_off (cut_at r.refused) e) r.ended.mets (session_over (volume_of k))) r.ended.moments;
       ends = by result r.ended.ends;
     };

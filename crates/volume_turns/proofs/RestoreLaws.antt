@@ -162,7 +162,7 @@ closes_so done = by (first_refusal done)
     by None = refl
     by (Some why) = refl
 
-answered_none : (mets : List Meeting) (s : Session) → answered mets s [] ≡ []
+pub answered_none : (mets : List Meeting) (s : Session) → answered mets s [] ≡ []
 answered_none [] s = refl
 answered_none (x ∷ mets) s = refl
 
