@@ -1,5 +1,5 @@
 -- Files are made of none by loading their versions in order; and each version is found by its key.
-use Rattle.std.proofs.Common.{◌≡◌, Bool, true, false, cond, ◌&&◌, Some, List, [], ◌∷◌, ◌++◌, Ordering, refl, sym, ap, subst, ◌∙◌, append_assoc}
+use Rattle.std.proofs.Common.{◌≡◌, Bool, true, false, cond, Some, [], ◌∷◌, ◌++◌, Ordering, refl, sym, ap, ◌∙◌, append_assoc}
 use Rattle.std.specs.Prelude.{T}
 use Rattle.std.specs.List.{fold, AllByRecursion}
 use Rattle.std.specs.declared.cmp.Ordering.TheVariants.{Less, Equal, Greater}

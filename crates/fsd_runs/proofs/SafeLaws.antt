@@ -97,7 +97,6 @@ cut_otherwise : (request : Request) (k : ℕ) (why : Fault) → MayCut request (
 cut_otherwise Asks.Script k Ends.Input may e = absurd (omega (arith, e))
 cut_otherwise Asks.Script k Ends.WornOut may e = absurd (omega (arith, e))
 cut_otherwise (Asks.Generate seed count) k Ends.WornOut may e = absurd (omega (arith, e))
-cut_otherwise Asks.Restore k Ends.WornOut may e = absurd (omega (arith, e))
 cut_otherwise request k why may e = absurd may
 
 in_otherwise : (request : Request) (input : List ℕ) (cut : Cut) → MayCut request cut → AllEndOtherwise (errand_of request input) → AllEndOtherwise (errand_in request input cut)

@@ -283,7 +283,6 @@ MayCut request None = Unit {0}
 MayCut Script (Some (ByFault k Ends.Input)) = Unit {0}
 MayCut Script (Some (ByFault k Ends.WornOut)) = Unit {0}
 MayCut (Generate seed count) (Some (ByFault k Ends.WornOut)) = Unit {0}
-MayCut Restore (Some (ByFault k Ends.WornOut)) = Unit {0}
 MayCut Restore (Some (ByRefusal k)) = Unit {0}
 MayCut (Dump since) (Some (Damages found)) = Unit {0}
 MayCut (Dump since) (Some (BySector k s)) = Unit {0}

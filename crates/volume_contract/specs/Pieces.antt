@@ -1,5 +1,5 @@
 -- Creations in pieces, and versions that readers hold: what a volume answers, and what it is then.
-use Rattle.std.specs.Prelude.{◌≡◌, ◌⊎◌, ⊤, ℕ, zero, suc, ◌+◌, ◌-◌, ◌*◌, ◌%◌, ◌<◌, ◌≤◌, Bool, true, false, not, ◌&&◌, ◌||◌, List, [], ◌∷◌, ◌++◌, length, map, filter, take, drop, replicate, set, Option, Some, None, IsTrue, IsFalse, Result, Ok, Err, IfOk, IfErr, MatchResult, nat_lt, nat_le, if◌then◌else◌, slice_index_or, slice_range}
+use Rattle.std.specs.Prelude.{◌≡◌, ◌⊎◌, ℕ, ◌+◌, ◌-◌, ◌*◌, ◌%◌, ◌<◌, ◌≤◌, Bool, true, false, not, ◌&&◌, ◌||◌, List, [], ◌∷◌, ◌++◌, length, map, filter, take, drop, replicate, set, Option, Some, None, IsTrue, IsFalse, Result, Ok, Err, IfOk, IfErr, MatchResult, if◌then◌else◌, slice_index_or}
 use Rattle.std.specs.List.{AllByRecursion}
 use Rattle.std.specs.FinMap.{find}
 use Rattle.volume_layout.specs.Layout.{is_data}
@@ -11,7 +11,6 @@ use Rattle.fsd_bytes.specs.declared.refusal.Refusal.{Refusal}
 use Rattle.fsd_bytes.specs.declared.refusal.Refusal.TheVariants as Why
 use Rattle.fsd_bytes.specs.Bytes.{sector_len}
 use Rattle.fsd_bytes.specs.Keys.{key_cmp}
-use Rattle.fsd_formats.specs.declared.entry.Entry.{Entry}
 use Rattle.fsd_formats.specs.NamePage.{is_entry, max_length, sectors_for}
 use Rattle.sector_disk.specs.Machine.{Moment}
 use Rattle.fsd_log.specs.Scan.{Placed}
