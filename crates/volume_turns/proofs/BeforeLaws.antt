@@ -1,12 +1,12 @@
 -- A run whose first calls do no more than wear the disk: it goes so from where these began.
-use Rattle.std.proofs.Common.{◌≡◌, ◌⊎◌, inl, inr, ℕ, ◌≤◌, List, [], ◌∷◌, ◌++◌, take, refl, sym, ◌∙◌, ap, subst, arith}
+use Rattle.std.proofs.Common.{◌≡◌, ◌⊎◌, inl, inr, ℕ, ◌≤◌, List, [], ◌∷◌, ◌++◌, take, sym, ◌∙◌, ap, subst, arith}
 use Rattle.fsd_log.specs.Scan.{Placed}
-use Rattle.std.specs.Prelude.{false, IsSome, slice_get}
+use Rattle.std.specs.Prelude.{Bool, false, IsSome, slice_get}
 use Rattle.std.proofs.lemmas.List.{append-nil}
 use Rattle.sector_disk.specs.declared.machine.Machine.{Ghosts}
-use Rattle.sector_disk.specs.Calls.{IsTimed, LeavesDisk, Since, StopsOnly, stops}
+use Rattle.sector_disk.specs.Calls.{Counts, IsTimed, LeavesDisk, Since, StopsOnly, stops}
 use Rattle.sector_disk.specs.Image.{AreShort, Windows, open_damage}
-use Rattle.sector_disk.specs.Machine.{LeavesOnly, Moment, Report, Utters, Wears}
+use Rattle.sector_disk.specs.Machine.{LeavesOnly, Moment, Report, UsesDisk, Utters, Wears}
 use Rattle.sector_disk.proofs.Moments.{leaves_more, then_on}
 use Rattle.fsd_files.specs.Disk.{Image, in_runs}
 use Rattle.fsd_files.specs.Desk.{Session}
@@ -20,11 +20,10 @@ use Rattle.fsd_texts.specs.Text.{fault_text}
 use Rattle.fsd_runs.specs.declared.request.Request.{Request}
 use Rattle.fsd_runs.specs.Errands.{Errand, Turn}
 use Rattle.fsd_runs.specs.Leaves.{IsBrokenOff, IsOutside, IsUnsaid, MayEnd}
-use Rattle.fsd_runs.specs.Runs.{Goes, changes_in, said_in, session_behind, turns_of}
+use Rattle.fsd_runs.specs.Runs.{Goes, changes_in, said_in, turns_of}
 use Rattle.fsd_runs.specs.Sessions.{Meeting, session_over}
 use Rattle.volume_contract.specs.State.{State, Ages, Known, Stands, forced_of, is_worn, volume_of}
 use Rattle.volume_turns.specs.Line.{EndsWith, is_unsaid}
-use Rattle.volume_turns.specs.Once.{IsDone}
 use Rattle.volume_turns.specs.Steps.{StaysSoundFor}
 use Rattle.volume_turns.specs.Turns.{InRun, OnDisk, Undone}
 use Rattle.volume_turns.specs.Whole.{Finishes, Halted, SaysOut, UnderWay}
@@ -32,6 +31,15 @@ use Rattle.volume_turns.proofs.HaltLaws.{stopped_ends, stopped_moments}
 use Rattle.volume_turns.proofs.RunLaws.{earlier_in}
 use Rattle.volume_turns.proofs.ScriptLaws.{in_from}
 use Rattle.volume_turns.proofs.TurnLaws.{none_done, stays_held, stays_stops, worn_state}
+
+-- a call of the input that has not failed uses the disk as little
+pub uses_untaken : {D : Type 0} (M : Ghosts D) (a m : D) (takes : Bool) → LeavesDisk M takes false Wears a m → takes ≡ false → UsesDisk (M.report a) (M.report m)
+uses_untaken M a m takes read untaken = record {
+  sectors = read.spares.sectors;
+  disk = let same = read.spares.disk in omega (arith, same);
+  input = subst (λ (x : Bool). Counts x (M.report a).input_faults (M.report m).input_faults) untaken read.spares.input;
+  output = read.spares.output;
+}
 
 module _ {S D : Type 0} (state : S → State) (has : S → Mounted → List Placed → Type 0) (M : Ghosts D) (v : S) (k : Known) (a m : D)
     (wears : (old new : Moment) → AreShort old.windows → Ages old new → Stands state has v k old → Stands state has v k new) (short : AreShort (M.now a).windows) (stands : Stands state has v k (M.now a))

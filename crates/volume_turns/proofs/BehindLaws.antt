@@ -1,5 +1,5 @@
 -- A run behind its mount: over the volume that was mounted, or by the line of the fault that refused it.
-use Rattle.std.proofs.Common.{◌≡◌, inl, inr, ℕ, ◌≤◌, Bool, false, List, [], Option, None, ◌∙◌, subst, arith}
+use Rattle.std.proofs.Common.{◌≡◌, inl, inr, ℕ, ◌≤◌, false, List, [], Option, None, ◌∙◌, subst, arith}
 use Rattle.std.specs.Prelude.{IsSome, IsTrue, Ok, Err, slice_get}
 use Rattle.volume_layout.specs.declared.layout.Layout.{Layout}
 use Rattle.sector_disk.specs.declared.machine.Machine.{Ghosts}

@@ -1,17 +1,12 @@
 -- How a dump ends, over any machine: by a text and its status, by a fault, or by the output.
-use Rattle.std.proofs.Common.{◌≡◌, ◌⊎◌, inl, inr, ℕ, zero, suc, ◌≤◌, Bool, true, false, List, [], ◌∷◌, ◌++◌, Option, Some, None, refl, sym, ◌∙◌, ap, subst, arith}
-use Rattle.std.specs.Prelude.{IsFalse, IsTrue, Result, Ok, Err}
+use Rattle.std.proofs.Common.{◌≡◌, ◌⊎◌, inl, inr, ℕ, zero, suc, ◌≤◌, false, List, [], ◌++◌, Option, None, refl, sym, ◌∙◌, ap, subst, arith}
+use Rattle.std.specs.Prelude.{IsTrue, Result, Ok, Err}
 use Rattle.sector_disk.specs.declared.machine.Machine.{Ghosts}
-use Rattle.sector_disk.specs.Calls.{DiskFaults, LeavesDisk, Since, SparesDisk}
-use Rattle.sector_disk.specs.Machine.{Ledger, Moment, Report, Rose, Trusts}
-use Rattle.sector_disk.proofs.CallLaws.{faults_then}
-use Rattle.sector_disk.proofs.Holding.{trusts_on}
+use Rattle.sector_disk.specs.Calls.{Since}
+use Rattle.sector_disk.specs.Machine.{Moment, Rose, Trusts}
 use Rattle.volume_layout.specs.declared.layout.Layout.{Layout}
 use Rattle.fsd_bytes.specs.declared.refusal.Refusal.{Refusal}
 use Rattle.fsd_bytes.specs.declared.refusal.Refusal.TheVariants as Why
-use Rattle.fsd_bytes.specs.declared.key.Serial.{Serial}
-use Rattle.fsd_log.specs.Scan.{Placed}
-use Rattle.fsd_sound.specs.Mounted.{Mounted}
 use Rattle.fsd_texts.specs.declared.fault.Fault.{Fault}
 use Rattle.fsd_texts.specs.declared.fault.Fault.TheVariants as Ends
 use Rattle.fsd_texts.specs.declared.line.Line.TheVariants as Says
@@ -27,10 +22,9 @@ use Rattle.volume_turns.specs.declared.turns.Halt.TheVariants.{Fault as Stopped}
 use Rattle.volume_turns.specs.Causes.{Parts, SaysFaultAt, SaysOfCall, is_of_fault}
 use Rattle.volume_turns.specs.Dumping.{EndsBehind, SaysAtEnd, damages_text}
 use Rattle.volume_turns.specs.Line.{IsStatusAs}
-use Rattle.volume_turns.specs.Running.{EndsMounted, TakesNothing}
 use Rattle.volume_turns.specs.Status.{CountsRun, IsDumpStatus}
 use Rattle.volume_turns.specs.Steps.{IsOfCall, IsToldOn, device_told}
-use Rattle.volume_turns.specs.Turns.{FaultTold, SaysAll}
+use Rattle.volume_turns.specs.Turns.{FaultTold}
 use Rattle.volume_turns.proofs.CauseLaws.{call_says}
 use Rattle.volume_turns.proofs.CountLaws.{told_more}
 use Rattle.volume_turns.proofs.LastLaws.{ends_fault, fault_not, told_place}

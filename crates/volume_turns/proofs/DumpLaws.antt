@@ -1,24 +1,21 @@
 -- What a dump over a mounted volume leaves, behind the sync in front of it.
-use Rattle.std.proofs.Common.{◌≡◌, ◌⊎◌, inl, inr, ⊎_elim, ℕ, zero, suc, ◌<◌, ◌≤◌, Bool, false, List, [], ◌∷◌, ◌++◌, length, map, take, drop, Option, Some, None, refl, sym, ◌∙◌, ap, subst, arith, append_assoc}
-use Rattle.std.specs.Prelude.{IsFalse, IsSome, Result, Ok, Err, ◌==◌, slice_get}
+use Rattle.std.proofs.Common.{◌≡◌, ℕ, zero, suc, ◌<◌, Bool, List, [], ◌∷◌, ◌++◌, length, take, drop, Option, Some, None, refl, sym, ◌∙◌, ap, arith, append_assoc}
+use Rattle.std.specs.Prelude.{slice_get}
 use Rattle.std.specs.List.{AllByRecursion, concat}
 use Rattle.std.proofs.Math.Seq.{take-append_seam}
-use Rattle.std.proofs.lemmas.List.{append-nil, append_cancel_left, take-append-drop, take-map}
-use Rattle.std.proofs.lemmas.Option.{slice_get-map}
+use Rattle.std.proofs.lemmas.List.{append_cancel_left, take-append-drop}
 use Rattle.sector_disk.specs.declared.machine.Machine.{Ghosts}
-use Rattle.sector_disk.specs.Calls.{IsHeld, IsTimed, LeavesDisk, Since, StopsOnly, stops}
-use Rattle.sector_disk.specs.Image.{AreShort, IsWorn, open_damage, sector_at}
-use Rattle.sector_disk.specs.Machine.{IsSynced, LeavesOnly, Moment, Report, Utters, Wears}
-use Rattle.sector_disk.specs.declared.sector.Sector.TheVariants.{Damaged}
+use Rattle.sector_disk.specs.Calls.{IsHeld, IsTimed, Since, StopsOnly, stops}
+use Rattle.sector_disk.specs.Image.{AreShort, IsWorn, open_damage}
+use Rattle.sector_disk.specs.Machine.{IsSynced, LeavesOnly, Moment, Utters, Wears}
 use Rattle.sector_disk.proofs.Lags.{held_synced}
 use Rattle.sector_disk.proofs.Moments.{leaves_more, then_on}
 use Rattle.sector_disk.proofs.Wear.{worn_whole}
 use Rattle.fsd_bytes.specs.declared.key.Key.{Key}
 use Rattle.fsd_bytes.specs.declared.key.Serial.{Serial}
-use Rattle.fsd_files.specs.Disk.{Image, in_runs}
+use Rattle.fsd_files.specs.Disk.{Image}
 use Rattle.fsd_files.specs.Kept.{IsWhole}
-use Rattle.fsd_files.specs.Scrub.{Picks, all_data}
-use Rattle.fsd_files.specs.Volume.{Volume}
+use Rattle.fsd_files.specs.Scrub.{Picks}
 use Rattle.fsd_files.proofs.ScrubLaws.{picks_longer}
 use Rattle.fsd_log.specs.Scan.{Placed}
 use Rattle.fsd_sound.specs.Laid.{HasOwnRoots}
@@ -29,9 +26,8 @@ use Rattle.fsd_texts.specs.declared.fault.Fault.{Fault}
 use Rattle.fsd_texts.specs.declared.fault.Fault.TheVariants as Ends
 use Rattle.fsd_texts.specs.Text.{fault_text}
 use Rattle.fsd_runs.specs.declared.request.Request.TheVariants.{Dump}
-use Rattle.fsd_runs.specs.Dumps.{AreWhole, chosen, dump_of}
-use Rattle.fsd_runs.specs.Errands.{Turn, damage_turn, said_turn}
-use Rattle.fsd_runs.specs.Leaves.{IsBrokenOff, IsUnsaid, SaysFault}
+use Rattle.fsd_runs.specs.Dumps.{dump_of}
+use Rattle.fsd_runs.specs.Errands.{Turn}
 use Rattle.fsd_runs.specs.Runs.{said_in}
 use Rattle.volume_contract.specs.State.{State, Ages, Known, Stands, forced_of, volume_of}
 use Rattle.volume_turns.specs.Once.{IsDone}
@@ -39,11 +35,9 @@ use Rattle.volume_turns.specs.Steps.{StaysSoundFor}
 use Rattle.volume_turns.specs.Turns.{InRun, OnDisk, SaysAll}
 use Rattle.volume_turns.specs.Whole.{GoesUnsaid}
 use Rattle.volume_turns.proofs.HaltLaws.{held_behind, stops_saying}
-use Rattle.volume_turns.proofs.PlainLaws.{ArePlain, in_plain, plain_halts, plain_map, plain_take, sound_all}
-use Rattle.volume_turns.proofs.ReasonLaws.{ages_then}
+use Rattle.volume_turns.proofs.PlainLaws.{ArePlain, in_plain, sound_all}
 use Rattle.volume_turns.proofs.SayLaws.{KeepsSynced}
 use Rattle.volume_turns.proofs.TurnLaws.{stays_held, stays_stops}
-use Rattle.volume_turns.proofs.UtterLaws.{aged}
 
 -- ---- what was whole
 

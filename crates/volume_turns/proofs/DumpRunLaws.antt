@@ -1,7 +1,7 @@
 -- A dump over a volume that stands, by how it ends.
-use Rattle.std.proofs.Common.{◌≡◌, ◌⊎◌, inl, inr, Bool, ℕ, suc, ◌≤◌, true, false, List, [], ◌∷◌, ◌++◌, length, map, take, drop, Option, Some, None, refl, sym, ◌∙◌, ap, subst, arith, append_assoc}
+use Rattle.std.proofs.Common.{◌≡◌, ◌⊎◌, inl, inr, Bool, ℕ, suc, true, false, List, [], ◌++◌, map, take, drop, Option, Some, None, refl, sym, ◌∙◌, ap, subst, arith, append_assoc}
 use Rattle.std.specs.Prelude.{IsSome, Result, Ok, Err, option_map, slice_get}
-use Rattle.std.specs.List.{concat, flat_map}
+use Rattle.std.specs.List.{concat}
 use Rattle.std.proofs.lemmas.List.{append-nil, append_cancel_left, take-append-drop, take-map}
 use Rattle.std.proofs.lemmas.Bool.{eq-eqb}
 use Rattle.std.proofs.lemmas.List.Concat.{concat_is}
@@ -10,7 +10,7 @@ use Rattle.std.proofs.lemmas.Option.{slice_get-map}
 use Rattle.std.proofs.lemmas.Grind.{flat_map-append}
 use Rattle.sector_disk.specs.declared.machine.Machine.{Ghosts}
 use Rattle.sector_disk.specs.Calls.{Counts, IsTimed, LeavesDisk, Since, StopsOnly}
-use Rattle.sector_disk.specs.Image.{AreShort, IsWorn, open_damage}
+use Rattle.sector_disk.specs.Image.{AreShort, open_damage}
 use Rattle.sector_disk.specs.Machine.{IsSynced, LeavesOnly, Moment, Rose, Utters, Wears}
 use Rattle.sector_disk.proofs.Moments.{leaves_more, then_on}
 use Rattle.fsd_bytes.specs.declared.key.Key.{Key}
@@ -28,7 +28,7 @@ use Rattle.fsd_runs.specs.Errands.{BySector, Damages, Turn, damage_turn, fault_s
 use Rattle.fsd_runs.specs.Leaves.{IsBrokenOff, IsUnsaid, SaysFault}
 use Rattle.fsd_runs.specs.Runs.{IsDumpedSo, errand_in, said_in}
 use Rattle.volume_contract.specs.State.{State, Ages, Known, Stands, forced_of, volume_of}
-use Rattle.volume_dump.specs.Dump.{BreaksOff, EndsDump, FindsDamages, HasDumped, IsBegun, IsCutOff, LeavesDumped, ReadsAndSays, SaysParts, SaysSome, device_in_dump, is_unsaid_dump}
+use Rattle.volume_dump.specs.Dump.{BreaksOff, EndsDump, FindsDamages, HasDumped, IsBegun, IsCutOff, LeavesDumped, ReadsAndSays, SaysSome, device_in_dump, is_unsaid_dump}
 use Rattle.volume_dump.specs.declared.fault.DumpFault.{DumpFault}
 use Rattle.volume_dump.specs.declared.fault.DumpFault.TheVariants as Faults
 use Rattle.volume_turns.specs.declared.turns.Halt.TheVariants.{Fault as Stopped}

@@ -5,12 +5,12 @@ use Rattle.std.proofs.lemmas.Grind.{flat_map-append}
 use Rattle.std.proofs.lemmas.List.{append-nil, map-append, take-append-drop, take_more}
 use Rattle.sector_disk.specs.declared.machine.Machine.{Ghosts}
 use Rattle.sector_disk.specs.Calls.{LeavesDisk}
-use Rattle.sector_disk.specs.Image.{IsWorn, Windows, open_damage}
+use Rattle.sector_disk.specs.Image.{open_damage}
 use Rattle.sector_disk.specs.Machine.{Moment, Utters, Wears}
 use Rattle.sector_disk.proofs.CallLaws.{leaves_none, leaves_then}
 use Rattle.sector_disk.proofs.Holding.{utters_none}
 use Rattle.sector_disk.proofs.Moments.{leaves_more}
-use Rattle.sector_disk.proofs.Wear.{worn_refl, worn_trans}
+use Rattle.sector_disk.proofs.Wear.{worn_refl}
 use Rattle.fsd_bytes.specs.declared.key.Key.{Key}
 use Rattle.fsd_runs.specs.Errands.{Turn, damage_turn}
 use Rattle.fsd_texts.specs.declared.line.Line.{Line}

@@ -1,5 +1,5 @@
 //! Programs over the contract of a volume that know nothing else of it: one command, a put of the input, a script, a
-//! dump, and commands that are made up, each from the mount to the last line.
+//! dump, a restore, and commands that are made up, each from the mount to the last line.
 #![tactic(auto)]
 
 mod answer;

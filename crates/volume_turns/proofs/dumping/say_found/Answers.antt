@@ -2,7 +2,6 @@ use Rattle.std.proofs.Common.{ℕ, ◌+◌, take, subst}
 use Rattle.fsd_texts.specs.declared.line.Line.TheVariants as Says
 use Rattle.volume_turns.specs.Dumping.{SaysAtEnd, damages_text}
 use Rattle.volume_turns.proofs.UtterLaws.{at_end_line, found_failed, found_next, not_failed}
-use Rattle.volume_turns.proofs.dumping.say_found.Given as given
 use Rattle.volume_turns.proofs.dumping.say_found.Goals as goal
 
 pub returns-then-last_line-eq6 : goal.returns-then-last_line-eq6
