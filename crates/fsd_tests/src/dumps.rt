@@ -3,6 +3,9 @@ use crate::machines::{Row, calm, first_wrong, formatted};
 use std::alloc::{AllocError, Global};
 use std::test::Fail;
 
+// The volume of two tests.
+const FORMAT: &str = "cfs format v 2048 256 64";
+
 // The dump of the version a!1 with the byte x, which the first mount has made.
 const ONE: &str =
     "CFSD\0\0\0\x01\0\0\0\x02\0\0\0\x01\x01a\0\0\0\x01\0\x02\0\0\0\0\x01xCFSE\0\0\0\x01";
@@ -20,30 +23,6 @@ const NONE: &str = "CFSD\0\0\0\0\0\0\0\0\0\0\0\0CFSE\0\0\0\0";
 // The dump of a!1 and b!1.
 const TWO: &[u8] = b"CFSD\0\0\0\x02\0\0\0\x02\0\0\0\x02\
     \x01a\0\0\0\x01\0\x02\0\0\0\0\x01x\x01b\0\0\0\x01\0\x02\0\0\0\0\x01yCFSE\0\0\0\x02";
-
-// A version that is said, is there already, and is made again once it is gone.
-const VERSION: [Row<'static>; 14] = [
-    ("cfs put v a", b"x", 0, "made a!1 2\n"),
-    ("cfs dump v 0 0", b"", 0, ONE),
-    ("cfs dump v 2 0", b"", 0, ONE),
-    ("cfs dump v 2 1", b"", 0, BEHIND),
-    ("cfs restore v", ONE.as_bytes(), 1, "refused exists a!1\n"),
-    ("cfs delete v a!1", b"", 0, "deleted a!1\n"),
-    ("cfs dump v 0 0", b"", 0, NONE),
-    ("cfs restore v", NONE.as_bytes(), 0, "restored 0\n"),
-    ("cfs restore v", b"", 1, "refused dump 0\n"),
-    ("cfs restore v", CUT, 1, "refused dump 37\n"),
-    ("cfs restore v", ONE.as_bytes(), 0, "restored 1\n"),
-    ("cfs get v a!1", b"", 0, "x"),
-    ("cfs list v *", b"", 0, "a!1 1 2 2\nlisted 1\n"),
-    ("cfs dump v 0 z", b"", 2, "bad line 0: bad number\n"),
-];
-
-// The first mount of all says a dump, and the second makes one again.
-const FRESH: [Row<'static>; 2] = [
-    ("cfs dump v 0 0", b"", 0, NONE),
-    ("cfs restore v", ONE.as_bytes(), 0, "restored 1\n"),
-];
 
 // Of two versions the second finds no place, and the one before it stands.
 const FULL: [Row<'static>; 4] = [
@@ -71,11 +50,35 @@ fn wrong_on(alloc: Global, format: &str, rows: &[Row]) -> Result<Option<usize>, 
 }
 
 #[test]
-fn dumps_are_said_and_restored(rt: HostRuntime) -> Result<(), Fail> {
-    let alloc = rt.alloc();
-    let format = "cfs format v 2048 256 64";
-    assert_eq!(rt; wrong_on(alloc, format, &VERSION)?, None);
-    assert_eq!(rt; wrong_on(alloc, format, &FRESH)?, None);
+fn a_version_is_said_and_made_again_once_it_is_gone(rt: HostRuntime) -> Result<(), Fail> {
+    let rows: [Row; 14] = [
+        ("cfs put v a", b"x", 0, "made a!1 2\n"),
+        ("cfs dump v 0 0", b"", 0, ONE),
+        ("cfs dump v 2 0", b"", 0, ONE),
+        ("cfs dump v 2 1", b"", 0, BEHIND),
+        ("cfs restore v", ONE.as_bytes(), 1, "refused exists a!1\n"),
+        ("cfs delete v a!1", b"", 0, "deleted a!1\n"),
+        ("cfs dump v 0 0", b"", 0, NONE),
+        ("cfs restore v", NONE.as_bytes(), 0, "restored 0\n"),
+        ("cfs restore v", b"", 1, "refused dump 0\n"),
+        ("cfs restore v", CUT, 1, "refused dump 37\n"),
+        ("cfs restore v", ONE.as_bytes(), 0, "restored 1\n"),
+        ("cfs get v a!1", b"", 0, "x"),
+        ("cfs list v *", b"", 0, "a!1 1 2 2\nlisted 1\n"),
+        ("cfs dump v 0 z", b"", 2, "bad line 0: bad number\n"),
+    ];
+    assert_eq!(rt; wrong_on(rt.alloc(), FORMAT, &rows)?, None);
+    Ok(())
+}
+
+// The first mount of all says a dump, and the second makes one again.
+#[test]
+fn a_fresh_volume_is_dumped_and_restored(rt: HostRuntime) -> Result<(), Fail> {
+    let rows: [Row; 2] = [
+        ("cfs dump v 0 0", b"", 0, NONE),
+        ("cfs restore v", ONE.as_bytes(), 0, "restored 1\n"),
+    ];
+    assert_eq!(rt; wrong_on(rt.alloc(), FORMAT, &rows)?, None);
     Ok(())
 }
 

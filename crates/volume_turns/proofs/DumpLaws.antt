@@ -30,6 +30,7 @@ use Rattle.fsd_runs.specs.Dumps.{dump_of}
 use Rattle.fsd_runs.specs.Errands.{Turn}
 use Rattle.fsd_runs.specs.Runs.{said_in}
 use Rattle.volume_contract.specs.State.{State, Ages, Known, Stands, forced_of, volume_of}
+use Rattle.scrub.proofs.LookLaws.{Any, anything}
 use Rattle.volume_turns.specs.Once.{IsDone}
 use Rattle.volume_turns.specs.Steps.{StaysSoundFor}
 use Rattle.volume_turns.specs.Turns.{InRun, OnDisk, SaysAll}
@@ -46,12 +47,8 @@ pub whole_before : (may : ℕ → Bool) (i j : Image) → IsWorn may i j → (xs
 whole_before may i j worn [] whole = tt
 whole_before may i j worn (x ∷ xs) (here, rest) = ((here.0, worn_whole may i j x.1 here.0 worn here.1), whole_before may i j worn xs rest)
 
-any_place : (xs : List (Key × ℕ)) → AllByRecursion (λ x. Unit {0}) xs
-any_place [] = tt
-any_place (x ∷ xs) = (tt, any_place xs)
-
 pub picks_before : (may : ℕ → Bool) (h i j : Image) → IsWorn may h i → (all found : List (Key × ℕ)) → Picks i j all found → Picks h j all found
-picks_before may h i j worn all found picks = picks_longer (λ s. Unit {0}) h i j j (λ s any whole. (whole.0, worn_whole may h i s whole.0 worn whole.1)) (λ s any hurt. hurt) all found (any_place all) picks
+picks_before may h i j worn all found picks = picks_longer Any h i j j (λ s any whole. (whole.0, worn_whole may h i s whole.0 worn whole.1)) (λ s any hurt. hurt) all found (anything all) picks
 
 -- ---- where nothing but a fault is said
 
