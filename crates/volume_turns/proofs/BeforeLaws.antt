@@ -1,12 +1,12 @@
 -- A run whose first calls do no more than wear the disk: it goes so from where these began.
 use Rattle.std.proofs.Common.{◌≡◌, ◌⊎◌, inl, inr, ℕ, ◌≤◌, List, [], ◌∷◌, ◌++◌, take, sym, ◌∙◌, ap, subst, arith}
 use Rattle.fsd_log.specs.Scan.{Placed}
-use Rattle.std.specs.Prelude.{false, IsSome, slice_get}
+use Rattle.std.specs.Prelude.{Bool, false, IsSome, slice_get}
 use Rattle.std.proofs.lemmas.List.{append-nil}
 use Rattle.sector_disk.specs.declared.machine.Machine.{Ghosts}
-use Rattle.sector_disk.specs.Calls.{IsTimed, LeavesDisk, Since, StopsOnly, stops}
+use Rattle.sector_disk.specs.Calls.{Counts, IsTimed, LeavesDisk, Since, StopsOnly, stops}
 use Rattle.sector_disk.specs.Image.{AreShort, Windows, open_damage}
-use Rattle.sector_disk.specs.Machine.{LeavesOnly, Moment, Report, Utters, Wears}
+use Rattle.sector_disk.specs.Machine.{LeavesOnly, Moment, Report, UsesDisk, Utters, Wears}
 use Rattle.sector_disk.proofs.Moments.{leaves_more, then_on}
 use Rattle.fsd_files.specs.Disk.{Image, in_runs}
 use Rattle.fsd_files.specs.Desk.{Session}
@@ -31,6 +31,15 @@ use Rattle.volume_turns.proofs.HaltLaws.{stopped_ends, stopped_moments}
 use Rattle.volume_turns.proofs.RunLaws.{earlier_in}
 use Rattle.volume_turns.proofs.ScriptLaws.{in_from}
 use Rattle.volume_turns.proofs.TurnLaws.{none_done, stays_held, stays_stops, worn_state}
+
+-- a call of the input that has not failed uses the disk as little
+pub uses_untaken : {D : Type 0} (M : Ghosts D) (a m : D) (takes : Bool) → LeavesDisk M takes false Wears a m → takes ≡ false → UsesDisk (M.report a) (M.report m)
+uses_untaken M a m takes read untaken = record {
+  sectors = read.spares.sectors;
+  disk = let same = read.spares.disk in omega (arith, same);
+  input = subst (λ (x : Bool). Counts x (M.report a).input_faults (M.report m).input_faults) untaken read.spares.input;
+  output = read.spares.output;
+}
 
 module _ {S D : Type 0} (state : S → State) (has : S → Mounted → List Placed → Type 0) (M : Ghosts D) (v : S) (k : Known) (a m : D)
     (wears : (old new : Moment) → AreShort old.windows → Ages old new → Stands state has v k old → Stands state has v k new) (short : AreShort (M.now a).windows) (stands : Stands state has v k (M.now a))

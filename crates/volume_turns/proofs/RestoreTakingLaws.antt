@@ -2,9 +2,9 @@
 use Rattle.std.proofs.Common.{◌≡◌, ◌⊎◌, inl, inr, ℕ, ◌<◌, Bool, false, List, length, Option, Some, None, refl, sym, ap, subst, arith}
 use Rattle.fsd_log.specs.Scan.{Placed}
 use Rattle.sector_disk.specs.declared.machine.Machine.{Ghosts}
-use Rattle.sector_disk.specs.Calls.{Counts, IsTimed, LeavesDisk}
+use Rattle.sector_disk.specs.Calls.{IsTimed, LeavesDisk}
 use Rattle.sector_disk.specs.Image.{AreShort}
-use Rattle.sector_disk.specs.Machine.{Moment, Report, UsesDisk, Utters, Wears}
+use Rattle.sector_disk.specs.Machine.{Moment, Report, Utters, Wears}
 use Rattle.fsd_files.specs.Disk.{Image}
 use Rattle.fsd_sound.specs.Mounted.{Mounted}
 use Rattle.fsd_texts.specs.declared.fault.Fault.{Fault}
@@ -22,7 +22,7 @@ use Rattle.volume_turns.specs.Restore.{IsRestoreStatus}
 use Rattle.volume_turns.specs.Status.{IsOneStatus, IsPutStatus}
 use Rattle.volume_turns.specs.Turns.{OnDisk}
 use Rattle.volume_turns.specs.Whole.{Always, Finishes, RunsOut}
-use Rattle.volume_turns.proofs.BeforeLaws.{finishes_before, finishes_ended, stands_worn}
+use Rattle.volume_turns.proofs.BeforeLaws.{finishes_before, finishes_ended, stands_worn, uses_untaken}
 use Rattle.volume_turns.proofs.InputLaws.{asks_none}
 use Rattle.volume_turns.proofs.RestoreLaws.{answered_none}
 use Rattle.volume_turns.proofs.RestoreOutLaws.{asks_nothing, low_from, some_load, some_turn}
@@ -93,17 +93,9 @@ module _ {S D : Type 0} (state : S → State) (has : S → Mounted → List Plac
   last_so unworn (Some (Damages found)) may at = absurd may
   last_so unworn (Some (BySector count s)) may at = absurd may
 
-  counted : takes ≡ false → UsesDisk (M.report a) (M.report m)
-  counted untaken = record {
-    sectors = read.spares.sectors;
-    disk = let same = read.spares.disk in omega (arith, same);
-    input = subst (λ (x : Bool). Counts x (M.report a).input_faults (M.report m).input_faults) untaken read.spares.input;
-    output = read.spares.output;
-  }
-
   -- the run goes on from there
   pub restore_on : takes ≡ false → is_worn (state v) ≡ false → RunsOut M Restore input rest (M.report m) k m b status → RunsOut M Restore input rest (M.report a) k a b status
-  restore_on untaken unworn r = runs_on M Restore input rest (M.report a) (M.report m) (counted untaken) (read.spares.disk, read.spares.place) k a b status (record {
+  restore_on untaken unworn r = runs_on M Restore input rest (M.report a) (M.report m) (uses_untaken M a m takes read untaken) (read.spares.disk, read.spares.place) k a b status (record {
     cut = r.cut;
     may = r.may;
     cause = r.cause;
