@@ -1,4 +1,4 @@
-use Rattle.std.proofs.Common.{true, None, ◌≡◌, ◌≤◌, ◌+◌, inl, List, ℕ, subst, arith}
+use Rattle.std.proofs.Common.{None, ◌≡◌, ◌≤◌, ◌+◌, inl, List, ℕ, subst, arith}
 use Rattle.fsd_texts.specs.declared.end.End.TheVariants.{Done}
 use Rattle.fsd_texts.specs.Script.{script_in}
 use Rattle.fsd_runs.specs.declared.request.Request.TheVariants.{Script}
