@@ -1,5 +1,5 @@
 -- A run whose first calls do no more than wear the disk: it goes so from where these began.
-use Rattle.std.proofs.Common.{◌≡◌, ◌⊎◌, inl, inr, ℕ, ◌≤◌, List, [], ◌∷◌, ◌++◌, take, refl, sym, ◌∙◌, ap, subst, arith}
+use Rattle.std.proofs.Common.{◌≡◌, ◌⊎◌, inl, inr, ℕ, ◌≤◌, List, [], ◌∷◌, ◌++◌, take, sym, ◌∙◌, ap, subst, arith}
 use Rattle.fsd_log.specs.Scan.{Placed}
 use Rattle.std.specs.Prelude.{false, IsSome, slice_get}
 use Rattle.std.proofs.lemmas.List.{append-nil}
@@ -20,11 +20,10 @@ use Rattle.fsd_texts.specs.Text.{fault_text}
 use Rattle.fsd_runs.specs.declared.request.Request.{Request}
 use Rattle.fsd_runs.specs.Errands.{Errand, Turn}
 use Rattle.fsd_runs.specs.Leaves.{IsBrokenOff, IsOutside, IsUnsaid, MayEnd}
-use Rattle.fsd_runs.specs.Runs.{Goes, changes_in, said_in, session_behind, turns_of}
+use Rattle.fsd_runs.specs.Runs.{Goes, changes_in, said_in, turns_of}
 use Rattle.fsd_runs.specs.Sessions.{Meeting, session_over}
 use Rattle.volume_contract.specs.State.{State, Ages, Known, Stands, forced_of, is_worn, volume_of}
 use Rattle.volume_turns.specs.Line.{EndsWith, is_unsaid}
-use Rattle.volume_turns.specs.Once.{IsDone}
 use Rattle.volume_turns.specs.Steps.{StaysSoundFor}
 use Rattle.volume_turns.specs.Turns.{InRun, OnDisk, Undone}
 use Rattle.volume_turns.specs.Whole.{Finishes, Halted, SaysOut, UnderWay}

@@ -16,7 +16,7 @@ use Rattle.fsd_texts.specs.declared.fault.Fault.{Fault}
 use Rattle.fsd_texts.specs.declared.script_command.ScriptCommand.{ScriptCommand}
 use Rattle.fsd_texts.specs.declared.script_command.ScriptCommand.TheVariants.{Plain}
 use Rattle.fsd_runs.specs.Errands.{Answered, answered_so, first_refusal, refusal_of}
-use Rattle.fsd_runs.specs.Runs.{RefusesLast, answered}
+use Rattle.fsd_runs.specs.Runs.{answered}
 use Rattle.fsd_runs.specs.Sessions.{Meeting, answer_in}
 use Rattle.client_desk.specs.Clients.{no_desk}
 use Rattle.volume_contract.specs.State.{State, Ages, Known, Stands}
@@ -25,7 +25,7 @@ use Rattle.volume_turns.specs.declared.turns.Halt.TheVariants.{Fault as Stopped}
 use Rattle.volume_turns.specs.Generate.{silent}
 use Rattle.volume_turns.specs.Loading.{LoadedStep, LoadsAll, LoadsOne, NoneRefused, RanSo, RefusedFor, RunsSo}
 use Rattle.volume_turns.specs.Seats.{DoesIn, IsAnsweredIn, Seated, SitsAt, StaysIn, known_of, session_in}
-use Rattle.volume_turns.specs.Turns.{KeepsCalls, OnDisk, RunsFrom, RunsTurns, Steps}
+use Rattle.volume_turns.specs.Turns.{KeepsCalls, OnDisk, RunsTurns, Steps}
 use Rattle.volume_turns.proofs.CountLaws.{never, silent_reply, silent_step}
 use Rattle.volume_turns.proofs.RunLaws.{from_both, from_both_mets, runs_nil, runs_nil_mets, step_fault, step_fault_mets}
 

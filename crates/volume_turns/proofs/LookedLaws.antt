@@ -1,6 +1,6 @@
 -- A restore behind what it has looked up, and one that makes nothing again.
-use Rattle.std.proofs.Common.{◌≡◌, ℕ, ◌≤◌, Bool, true, false, List, [], ◌∷◌, length, map, Option, Some, None, refl, subst, arith}
-use Rattle.std.specs.Prelude.{◌==◌, if◌then◌else◌, IfOk, IsSome, Result, Ok, Err, slice_get}
+use Rattle.std.proofs.Common.{◌≡◌, ℕ, Bool, true, false, List, [], ◌∷◌, length, map, Option, Some, None, refl, subst, arith}
+use Rattle.std.specs.Prelude.{◌==◌, if◌then◌else◌, IsSome, Result, Ok, Err, slice_get}
 use Rattle.fsd_log.specs.Scan.{Placed}
 use Rattle.volume_layout.specs.declared.layout.Layout.{Layout}
 use Rattle.sector_disk.specs.declared.machine.Machine.{Ghosts}
@@ -21,20 +21,18 @@ use Rattle.fsd_texts.specs.Text.{text}
 use Rattle.fsd_dumps.specs.Dump.{Dumped}
 use Rattle.fsd_dumps.specs.Front.{ItemsRead}
 use Rattle.fsd_runs.specs.Dumps.{first_there}
-use Rattle.fsd_runs.specs.Errands.{Ending, Errand, blank, cut_off, load_of, restore_of, restored_unless, restoring, restoring_none, restoring_unless}
+use Rattle.fsd_runs.specs.Errands.{Errand, blank, cut_off, load_of, restore_of, restored_unless, restoring_none, restoring_unless}
 use Rattle.fsd_runs.specs.Runs.{turns_of}
 use Rattle.fsd_runs.specs.Sessions.{session_over}
 use Rattle.client_desk.specs.Clients.{no_desk}
 use Rattle.client_desk.proofs.FinishLaws.{sits_fresh}
-use Rattle.scrub.specs.Telling.{AreOfPage}
 use Rattle.volume_contract.specs.State.{Ages, Known, Stands, State, forced_of, is_worn, none_open, volume_of}
 use Rattle.volume_turns.specs.declared.turns.Halt.{Halt}
 use Rattle.volume_turns.specs.declared.turns.Halt.TheVariants.{Fault as Stopped, Output}
 use Rattle.volume_turns.specs.Generate.{silent}
 use Rattle.volume_turns.specs.Once.{Anything}
-use Rattle.volume_turns.specs.Restore.{EndsErrand, EndsQuiet, EndsSaying, IsEnded, IsRestored, LooksFor, cut_at}
+use Rattle.volume_turns.specs.Restore.{EndsErrand, EndsQuiet, EndsSaying, IsRestored, LooksFor, cut_at}
 use Rattle.volume_turns.specs.Seats.{known_of, seated}
-use Rattle.volume_turns.specs.Steps.{device_by}
 use Rattle.volume_turns.specs.Turns.{EndsAtOnce, OnDisk}
 use Rattle.volume_turns.proofs.ApartLaws.{fault_is}
 use Rattle.volume_turns.proofs.BeforeLaws.{goes_before, halted_before, halted_here, out_before, stops_before, worn_stops}

@@ -10,7 +10,6 @@ use Rattle.sector_disk.specs.Calls.{IsTimed, Since, StopsOnly}
 use Rattle.fsd_bytes.specs.declared.refusal.Refusal.{Refusal}
 use Rattle.fsd_files.specs.Desk.{Session, no_clients}
 use Rattle.fsd_files.specs.Disk.{Image, in_runs}
-use Rattle.fsd_files.specs.Volume.{Volume}
 use Rattle.fsd_sound.specs.Mounted.{Mounted}
 use Rattle.fsd_texts.specs.declared.fault.Fault.{Fault}
 use Rattle.fsd_texts.specs.declared.fault.Fault.TheVariants as Ends

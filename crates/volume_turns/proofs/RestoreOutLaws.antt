@@ -1,5 +1,5 @@
 -- A restore of what was taken, to its end.
-use Rattle.std.proofs.Common.{◌≡◌, inl, inr, ℕ, zero, suc, ◌≤◌, ◌<◌, Bool, true, false, List, [], ◌∷◌, length, Option, Some, None, refl, sym, ◌∙◌, ap, subst, arith}
+use Rattle.std.proofs.Common.{◌≡◌, inl, inr, ℕ, zero, suc, ◌≤◌, ◌<◌, Bool, true, false, List, [], length, Option, Some, None, refl, sym, ap, subst, arith}
 use Rattle.std.specs.Prelude.{if◌then◌else◌, nat_lt, IsSome, Result, Ok, Err, slice_get}
 use Rattle.std.proofs.lemmas.Bool.{lt-ltb, ltb-true}
 use Rattle.sector_disk.specs.declared.machine.Machine.{Ghosts}
@@ -22,7 +22,7 @@ use Rattle.fsd_runs.specs.declared.request.Request.TheVariants.{Restore}
 use Rattle.fsd_runs.specs.Errands.{ByRefusal, Errand, cut_off, errand_of, nothing_but, restore_of}
 use Rattle.fsd_runs.specs.Runs.{Goes, IsCutAt, IsCutBefore, IsRestoredSo, answered, session_behind, turns_of}
 use Rattle.fsd_runs.specs.Sessions.{session_over}
-use Rattle.volume_contract.specs.State.{Known, forced_of, volume_of}
+use Rattle.volume_contract.specs.State.{Known, volume_of}
 use Rattle.volume_turns.specs.declared.turns.Halt.{Halt}
 use Rattle.volume_turns.specs.declared.turns.Halt.TheVariants.{Fault as Stopped, Output}
 use Rattle.volume_turns.specs.Commands.{IsStatusFrom}

@@ -1,5 +1,5 @@
 -- A restore whose input is taken first, or can't be.
-use Rattle.std.proofs.Common.{◌≡◌, ◌⊎◌, inl, inr, ℕ, ◌≤◌, ◌<◌, Bool, true, false, List, [], length, Option, Some, None, refl, sym, ap, subst, arith}
+use Rattle.std.proofs.Common.{◌≡◌, ◌⊎◌, inl, inr, ℕ, ◌<◌, Bool, false, List, length, Option, Some, None, refl, sym, ap, subst, arith}
 use Rattle.fsd_log.specs.Scan.{Placed}
 use Rattle.sector_disk.specs.declared.machine.Machine.{Ghosts}
 use Rattle.sector_disk.specs.Calls.{Counts, IsTimed, LeavesDisk}
@@ -13,7 +13,7 @@ use Rattle.fsd_texts.specs.Script.{max_input}
 use Rattle.fsd_texts.specs.Text.{fault_text}
 use Rattle.fsd_runs.specs.declared.request.Request.TheVariants.{Put, Restore}
 use Rattle.fsd_runs.specs.Errands.{ByFault, ByRefusal, BySector, Cut, Damages, Errand, MayCut, Turn, errand_of, first_refusal, nothing_but}
-use Rattle.fsd_runs.specs.Leaves.{IsBrokenOff, IsOutside, IsUnsaid, MayEnd}
+use Rattle.fsd_runs.specs.Leaves.{IsBrokenOff, IsOutside, MayEnd}
 use Rattle.fsd_runs.specs.Runs.{IsCutAt, IsCutBefore, answered, errand_in}
 use Rattle.fsd_runs.specs.Sessions.{session_over}
 use Rattle.volume_contract.specs.State.{State, Ages, Known, Stands, forced_of, is_worn, volume_of}

@@ -1,6 +1,6 @@
 -- How a script that was done goes on to its status, whatever has ended it.
 use Rattle.std.proofs.Common.{◌≡◌, ◌⊎◌, inl, inr, ⊎_elim, ℕ, ◌++◌, List, [], ◌∷◌, Option, Some, None, refl, sym, ◌∙◌, ap, subst, arith}
-use Rattle.std.specs.Prelude.{IsTrue, IfErr, IfOk, true, false, Result, Ok, Err}
+use Rattle.std.specs.Prelude.{IsTrue, IfErr, IfOk, false, Result, Ok, Err}
 use Rattle.std.proofs.lemmas.Bool.{eqb-false}
 use Rattle.std.proofs.Math.Dec.{eqb}
 use Rattle.volume_layout.specs.declared.layout.Layout.{Layout}

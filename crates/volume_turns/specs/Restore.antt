@@ -14,7 +14,7 @@ use Rattle.fsd_runs.specs.Errands.{ByRefusal, Cut, Errand, cut_off}
 use Rattle.fsd_runs.specs.Runs.{Goes, IsRestoredSo, answered, turns_of}
 use Rattle.fsd_runs.specs.Sessions.{Meeting, session_over}
 use Rattle.scrub.specs.Telling.{AreOfPage}
-use Rattle.volume_contract.specs.State.{Known, Stands, State, forced_of, is_worn, none_open, volume_of}
+use Rattle.volume_contract.specs.State.{Known, Stands, State, forced_of, none_open, volume_of}
 use Rattle.volume_turns.specs.declared.turns.Halt.{Halt}
 use Rattle.volume_turns.specs.declared.turns.Halt.TheVariants.{Fault as Stopped, Output}
 use Rattle.volume_turns.specs.Once.{Anything, ClosesAndSays, unit_of}

@@ -1,4 +1,4 @@
-use Rattle.std.proofs.Common.{◌≡◌, ℕ, inr, false, Option, Ok, refl, ◌∙◌, ap}
+use Rattle.std.proofs.Common.{◌≡◌, ℕ, inr, Option, Ok, refl, ◌∙◌, ap}
 use Rattle.std.specs.Prelude.{◌==◌, IsFalse, Result}
 use Rattle.std.proofs.lemmas.Bool.{eq-eqb}
 use Rattle.sector_disk.proofs.Holding.{trusts_on}

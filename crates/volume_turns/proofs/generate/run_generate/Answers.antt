@@ -1,4 +1,4 @@
-use Rattle.std.proofs.Common.{ℕ, List, false, Some, subst}
+use Rattle.std.proofs.Common.{ℕ, List, Some, subst}
 use Rattle.fsd_runs.specs.declared.request.Request.TheVariants.{Generate}
 use Rattle.scrub.specs.Telling.{AreOfPage}
 use Rattle.volume_turns.specs.Causes.{Nothing, SaysMade}

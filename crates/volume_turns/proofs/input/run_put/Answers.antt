@@ -1,4 +1,4 @@
-use Rattle.std.proofs.Common.{inr, ◌≤◌, length, ℕ, List, false, None, subst, arith}
+use Rattle.std.proofs.Common.{inr, ◌≤◌, length, ℕ, List, None, subst, arith}
 use Rattle.fsd_texts.specs.Script.{max_input}
 use Rattle.fsd_texts.specs.declared.command.Command.TheVariants as Word
 use Rattle.fsd_runs.specs.declared.request.Request.TheVariants.{Put}

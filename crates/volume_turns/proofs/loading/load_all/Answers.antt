@@ -1,24 +1,21 @@
-use Rattle.std.proofs.Common.{◌≡◌, ℕ, ◌+◌, ◌<◌, List, ◌∷◌, drop, length, Option, Some, None, Ok, Err, refl, sym, ◌∙◌, ap, subst, arith}
-use Rattle.std.specs.Prelude.{Result}
+use Rattle.std.proofs.Common.{◌+◌, List, ◌∷◌, drop, length, Some, None, Ok, Err, refl, sym, ◌∙◌, ap, subst, arith}
 use Rattle.std.proofs.lemmas.List.{drop_all, drop_more}
 use Rattle.volume_layout.specs.declared.layout.Layout.{Layout}
 use Rattle.sector_disk.specs.Image.{AreShort, Windows}
-use Rattle.fsd_bytes.specs.declared.refusal.Refusal.{Refusal}
 use Rattle.fsd_runs.specs.Errands.{load_of}
 use Rattle.fsd_texts.specs.declared.fault.Fault.TheVariants as Ends
 use Rattle.dump_text.specs.declared.item.Item.{Item}
 use Rattle.dump_text.specs.Items.{dumped}
 use Rattle.scrub.specs.Telling.{AreOfPage}
-use Rattle.volume_turns.specs.declared.turns.Halt.{Halt}
 use Rattle.volume_turns.specs.declared.turns.Halt.TheVariants.{Fault as Stopped}
-use Rattle.volume_turns.specs.Loading.{LoadsAll, LoadsOne, loads_of}
+use Rattle.volume_turns.specs.Loading.{LoadsAll, loads_of}
 use Rattle.volume_turns.specs.Turns.{IsEndOn}
 use Rattle.volume_turns.proofs.ApartLaws.{err_is, ok_apart}
 use Rattle.volume_turns.proofs.LoadingLaws.{loads_nil, loads_refused, loads_stop, loads_then}
 use Rattle.volume_turns.proofs.NumberLaws.{ended, goes_none, goes_then, may_before}
 use Rattle.volume_turns.proofs.RunLaws.{follows_then}
 use Rattle.volume_turns.proofs.SayLaws.{timed_by}
-use Rattle.volume_turns.proofs.SpeaksLaws.{speaks_ended, speaks_keeps, speaks_still, speaks_then}
+use Rattle.volume_turns.proofs.SpeaksLaws.{speaks_keeps, speaks_still, speaks_then}
 use Rattle.volume_turns.proofs.loading.load_all.Goals as goal
 
 pub loop-place-init : goal.loop-place-init

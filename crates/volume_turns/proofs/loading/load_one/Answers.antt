@@ -2,7 +2,6 @@ use Rattle.std.proofs.Common.{◌≡◌, List, ℕ, refl, ap, subst}
 use Rattle.std.specs.Prelude.{Ok, Err}
 use Rattle.sector_disk.specs.Image.{AreShort, Windows}
 use Rattle.sector_disk.proofs.CallLaws.{writes_more}
-use Rattle.fsd_bytes.specs.declared.refusal.Refusal.{Refusal}
 use Rattle.fsd_texts.specs.declared.command.Command.TheVariants as Word
 use Rattle.fsd_texts.specs.declared.fault.Fault.{Fault}
 use Rattle.fsd_texts.specs.declared.fault.Fault.TheVariants as Ends

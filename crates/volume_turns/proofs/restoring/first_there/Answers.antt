@@ -1,14 +1,11 @@
-use Rattle.std.proofs.Common.{◌≡◌, ℕ, ◌+◌, List, ◌∷◌, drop, map, Some, None, Ok, Err, refl, sym, ◌∙◌, ap, subst, arith}
+use Rattle.std.proofs.Common.{◌+◌, List, drop, map, Some, refl, sym, ◌∙◌, ap, subst, arith}
 use Rattle.std.specs.Prelude.{slice_index_or}
 use Rattle.std.proofs.lemmas.List.{drop_all, drop_more}
 use Rattle.volume_layout.specs.declared.layout.Layout.{Layout}
 use Rattle.fsd_bytes.specs.declared.key.Key.{Key}
-use Rattle.fsd_formats.specs.declared.entry.Entry.{Entry}
-use Rattle.fsd_texts.specs.declared.fault.Fault.{Fault}
 use Rattle.dump_text.specs.declared.item.Item.{Item}
 use Rattle.dump_text.specs.Items.{dumped}
 use Rattle.fsd_runs.specs.Dumps.{first_there}
-use Rattle.sector_disk.specs.Image.{AreShort, Windows}
 use Rattle.sector_disk.proofs.CallLaws.{reads_none, reads_then}
 use Rattle.scrub.specs.Telling.{AreOfPage}
 use Rattle.volume_contract.specs.State.{State, volume_of}

@@ -1,4 +1,4 @@
-use Rattle.std.proofs.Common.{◌≡◌, ℕ, ◌≤◌, List, length, map, Ok, Err, refl, sym, ◌∙◌, ap, subst, arith}
+use Rattle.std.proofs.Common.{◌≡◌, ◌≤◌, List, length, map, Ok, Err, refl, sym, ◌∙◌, ap, subst, arith}
 use Rattle.std.specs.Prelude.{All, IsTrue}
 use Rattle.sector_disk.proofs.Moments.{started}
 use Rattle.sector_disk.proofs.Holding.{wears_none}
@@ -13,7 +13,6 @@ use Rattle.dump_text.specs.Items.{IsUnread, dumped}
 use Rattle.fsd_runs.specs.Errands.{restore_of}
 use Rattle.fsd_runs.specs.Sessions.{session_over}
 use Rattle.volume_contract.specs.State.{volume_of}
-use Rattle.volume_turns.specs.declared.turns.Halt.TheVariants.{Fault as Stopped}
 use Rattle.volume_turns.specs.Restore.{IsRestored}
 use Rattle.volume_turns.proofs.ApartLaws.{memory_worn}
 use Rattle.volume_turns.proofs.DumpedLaws.{dump_few, dump_is_read, dump_keys, none_is_read}

@@ -1,4 +1,4 @@
-use Rattle.std.proofs.Common.{◌≡◌, ◌≤◌, [], map, Option, None, sym, ◌∙◌, ap, subst, arith}
+use Rattle.std.proofs.Common.{[], map, Option, sym, ◌∙◌, ap, subst, arith}
 use Rattle.fsd_bytes.specs.declared.key.Key.{Key}
 use Rattle.dump_text.specs.Items.{dumped}
 use Rattle.fsd_texts.specs.declared.line.Line.TheVariants as Says

@@ -1,4 +1,4 @@
-use Rattle.std.proofs.Common.{◌≤◌, length, ℕ, List, false, Some, refl, subst, arith}
+use Rattle.std.proofs.Common.{◌≤◌, length, ℕ, List, Some, refl, subst, arith}
 use Rattle.fsd_texts.specs.Script.{max_input}
 use Rattle.fsd_runs.specs.declared.request.Request.TheVariants.{Restore}
 use Rattle.scrub.specs.Telling.{AreOfPage}

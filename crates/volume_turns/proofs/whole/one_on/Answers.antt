@@ -1,4 +1,4 @@
-use Rattle.std.proofs.Common.{false, inl, inr, Err, refl, ap, arith}
+use Rattle.std.proofs.Common.{inl, inr, Err, refl, ap, arith}
 use Rattle.sector_disk.proofs.Holding.{trusts_on}
 use Rattle.fsd_texts.specs.declared.fault.Fault.{Fault}
 use Rattle.volume_turns.specs.Causes.{Nothing}

@@ -1,4 +1,4 @@
-use Rattle.std.proofs.Common.{false, None, []}
+use Rattle.std.proofs.Common.{None, []}
 use Rattle.fsd_runs.specs.declared.request.Request.TheVariants.{One}
 use Rattle.volume_turns.specs.Causes.{Nothing}
 use Rattle.volume_turns.specs.Commands.{MayLose}
