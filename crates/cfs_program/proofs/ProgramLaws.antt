@@ -79,7 +79,7 @@ module _ {D : Type 0} (M : Ghosts D) (path : List ℕ) (a b : D) (line : Line) (
   ran_line (One command) is = absurd (cc is)
   ran_line Script is = absurd (cc is)
   ran_line (Generate seed count) is = absurd (cc is)
-  ran_line (Dump since) is = absurd (cc is)
+  ran_line (Dump since most) is = absurd (cc is)
   ran_line Restore is = absurd (cc is)
   ran_line Drill is = absurd (cc is)
   ran_line request is = record {
@@ -168,7 +168,7 @@ if_mounts (Put name keep) P p = p
 if_mounts (One command) P p = p
 if_mounts Script P p = p
 if_mounts (Generate seed count) P p = p
-if_mounts (Dump since) P p = p
+if_mounts (Dump since most) P p = p
 if_mounts Restore P p = p
 if_mounts request P p = tt
 
@@ -197,7 +197,7 @@ syncs_none : (request : Request) (Honest : Type 0) (old new : Ledger) → new.sy
 syncs_none (Put name keep) Honest old new same = omega (arith, same)
 syncs_none (One command) Honest old new same = omega (arith, same)
 syncs_none (Generate seed count) Honest old new same = omega (arith, same)
-syncs_none (Dump since) Honest old new same = omega (arith, same)
+syncs_none (Dump since most) Honest old new same = omega (arith, same)
 syncs_none Restore Honest old new same = omega (arith, same)
 syncs_none Script Honest old new same = λ h. omega (arith, same)
 syncs_none request Honest old new same = same
@@ -300,7 +300,7 @@ module _ {D : Type 0} {M : Ghosts D} {path : List ℕ} {failed : Failed} {a b z 
   ran_unfound (One command) = ran_failed (One command) (four_one command) refl tt
   ran_unfound Script = ran_failed Script refl refl tt
   ran_unfound (Generate seed count) = ran_failed (Generate seed count) refl refl tt
-  ran_unfound (Dump since) = ran_failed (Dump since) refl refl tt
+  ran_unfound (Dump since most) = ran_failed (Dump since most) refl refl tt
   ran_unfound Restore = ran_failed Restore refl refl tt
   ran_unfound request = tt
 

@@ -43,7 +43,7 @@ complete_statuses (Put name keep) = 0 ∷ 1 ∷ 3 ∷ 5 ∷ 7 ∷ 9 ∷ []
 complete_statuses (One command) = reply_statuses command ++ 3 ∷ 7 ∷ 9 ∷ []
 complete_statuses Script = 0 ∷ 2 ∷ 3 ∷ 5 ∷ 7 ∷ 9 ∷ []
 complete_statuses (Generate seed count) = 0 ∷ 3 ∷ 7 ∷ 9 ∷ []
-complete_statuses (Dump since) = 0 ∷ 1 ∷ 3 ∷ 7 ∷ 8 ∷ 9 ∷ []
+complete_statuses (Dump since most) = 0 ∷ 1 ∷ 3 ∷ 7 ∷ 8 ∷ 9 ∷ []
 complete_statuses Restore = 0 ∷ 1 ∷ 3 ∷ 5 ∷ 7 ∷ 9 ∷ []
 complete_statuses Drill = 0 ∷ 7 ∷ []
 
@@ -79,7 +79,7 @@ abbrev pub SyncsAtMost : Request → (Honest : Type 0) → (old new : Ledger) �
 SyncsAtMost (Put name keep) Honest old new = new.syncs ≤ old.syncs + 1
 SyncsAtMost (One command) Honest old new = new.syncs ≤ old.syncs + 1
 SyncsAtMost (Generate seed count) Honest old new = new.syncs ≤ old.syncs + 1
-SyncsAtMost (Dump since) Honest old new = new.syncs ≤ old.syncs + 1
+SyncsAtMost (Dump since most) Honest old new = new.syncs ≤ old.syncs + 1
 SyncsAtMost Restore Honest old new = new.syncs ≤ old.syncs + 1
 SyncsAtMost Script Honest old new = Honest → new.syncs ≤ old.syncs + most_in_script old.input
 SyncsAtMost request Honest old new = new.syncs ≡ old.syncs
@@ -152,13 +152,13 @@ SaysAnswer request place old new result = ⊤
 -- what is said before the last line: of a script replies, and of a dump some bytes of it
 abbrev pub front_of : Request → Front
 front_of Script = Replies
-front_of (Dump since) = Parts
+front_of (Dump since most) = Parts
 front_of request = Nothing
 
 -- the sectors that a call of a run may tell as lost
 abbrev pub RunMayLose : Request → Layout → (a b : ℕ) → Type 0
 RunMayLose (One command) = MayLose command
-RunMayLose (Dump since) = StandTwice
+RunMayLose (Dump since most) = StandTwice
 RunMayLose request = AreOfPage
 
 -- how many commands it does at most with no force between them that its words ask for

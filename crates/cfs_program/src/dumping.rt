@@ -9,18 +9,20 @@ use std::alloc::Global;
 use volume_contract::Files;
 use volume_turns::{run_dump, run_restore};
 
-/// Says a dump of the versions of an image's volume whose serial is greater, or their damaged data sectors alone. A fault
-/// is said in its place, or behind the versions that were said. It gives the status.
+/// Says a dump of the versions of an image's volume whose serial is greater, or of as many of those that were made first as
+/// so many bytes hold; or their damaged data sectors alone. A refusal or a fault is said in its place, or a fault behind
+/// the versions that were said. It gives the status.
 pub fn run_dump_of<M: Machine, V: Files<M> + Drop>(
     alloc: Global,
     m: &mut M,
     path: &str,
     since: Serial,
+    most: Option<u32>,
 ) -> u8
-    ensures { Ran M.Machine (Dump since) path.now m.old m.new result }
+    ensures { Ran M.Machine (Dump since most) path.now m.old m.new result }
 {
     match attached(m, path) {
-        Ok(sectors) => run_dump::<M, V>(alloc, m, sectors, since),
+        Ok(sectors) => run_dump::<M, V>(alloc, m, sectors, since, most),
         Err(status) => status,
     }
 }

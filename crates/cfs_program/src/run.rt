@@ -42,7 +42,7 @@ pub fn run_request<M: Machine, V: Files<M> + Drop, W: Files<MemoryMachine> + Dro
         Request::Put { name, keep } => run_input::<M, V>(alloc, m, path, name, *keep),
         Request::Script => run_commands::<M, V>(alloc, m, path),
         Request::Generate { seed, count } => run_made_up::<M, V>(alloc, m, path, *seed, *count),
-        Request::Dump(since) => run_dump_of::<M, V>(alloc, m, path, *since),
+        Request::Dump { since, most } => run_dump_of::<M, V>(alloc, m, path, *since, *most),
         Request::Restore => run_restore_of::<M, V>(alloc, m, path),
         Request::Drill => run_drill::<M, W>(alloc, m),
     }

@@ -6,7 +6,9 @@ ghost use Rattle.clap.specs.Walk.{rows_of};
 ghost use Rattle.fsd_runs.specs.Words.{cfs, reads_dump, reads_fields, reads_format, reads_generate, reads_keep, reads_move, reads_put};
 ghost use Rattle.command_words.specs.CommandSet.{IsCommand, shape_of, with_row};
 
-use crate::field::{field, keep_of, key_of, layout_of, name_of, number_at, pattern_of, seed_of};
+use crate::field::{
+    field, key_of, layout_of, name_of, number_at, number_if_given, pattern_of, seed_of,
+};
 use clap::{Arg, ArgMatches, Command};
 use fsd_bytes::Serial;
 use fsd_runs::Request;
@@ -76,7 +78,7 @@ const ROWS: [Row<'static>; 15] = [
     Row {
         name: "dump",
         positionals: &["image", "e", "c"],
-        options: &[],
+        options: &["bytes"],
     },
     Row {
         name: "restore",
@@ -186,7 +188,7 @@ fn read_put(fields: &ArgMatches<'_>) -> Result<Request, Cause>
     ensures { result ≡ reads_put (rows_of (found_of fields.now)) }
 {
     let name = name_of(field(fields, "name"))?;
-    let keep = keep_of(fields)?;
+    let keep = number_if_given(fields, "keep")?;
     Ok(Request::Put { name, keep })
 }
 
@@ -211,7 +213,11 @@ fn read_dump(fields: &ArgMatches<'_>) -> Result<Request, Cause>
 {
     let epoch = number_at(fields, "e")?;
     let count = number_at(fields, "c")?;
-    Ok(Request::Dump(Serial { epoch, count }))
+    let most = number_if_given(fields, "bytes")?;
+    Ok(Request::Dump {
+        since: Serial { epoch, count },
+        most,
+    })
 }
 
 fn read_generate(fields: &ArgMatches<'_>) -> Result<Request, Cause>

@@ -6,7 +6,7 @@ ghost use Rattle.clap.specs.Matches.{found_of};
 ghost use Rattle.clap.specs.Walk.{first_of, rows_of};
 ghost use Rattle.fsd_bytes.specs.Keys.{is_plain};
 ghost use Rattle.fsd_texts.specs.Script.{key_in, name_in, number_in, pattern_in};
-ghost use Rattle.fsd_runs.specs.Words.{field, keep_in, kind_numbered, layout_in, seed_in};
+ghost use Rattle.fsd_runs.specs.Words.{field, if_given, kind_numbered, layout_in, seed_in};
 
 use clap::ArgMatches;
 use fsd_bytes::{FileName, Key, Pattern, read_number};
@@ -54,15 +54,15 @@ pub(crate) fn pattern_of(word: &str) -> Result<Pattern, Cause>
     Pattern::parse(word.as_bytes()).ok_or(Cause::BadPattern)
 }
 
-/// The value of the option of a put, where it has it.
-pub(crate) fn keep_of(fields: &ArgMatches<'_>) -> Result<Option<u32>, Cause>
-    ensures { result ≡ keep_in (first_of (codes "keep") (rows_of (found_of fields.now))) }
+/// The number that an option spells, where it is given.
+pub(crate) fn number_if_given(fields: &ArgMatches<'_>, id: &str) -> Result<Option<u32>, Cause>
+    ensures { result ≡ if_given (first_of id.now (rows_of (found_of fields.now))) }
 {
-    option_of(fields.get_str("keep"))
+    option_of(fields.get_str(id))
 }
 
 fn option_of(word: Option<&str>) -> Result<Option<u32>, Cause>
-    ensures { result ≡ keep_in (option_map (λ w. w.now) word.entry) }
+    ensures { result ≡ if_given (option_map (λ w. w.now) word.entry) }
 {
     match word {
         Some(word) => Ok(Some(number_of(word)?)),

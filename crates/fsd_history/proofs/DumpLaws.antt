@@ -64,31 +64,31 @@ answered_none (x ∷ mets) s = refl
 
 module _ (since : Serial) (v : Volume) where
   abbrev dump_in : Cut → Errand
-  dump_in cut = errand_in (Asks.Dump since) [] cut v
+  dump_in cut = errand_in (Asks.Dump since most) [] cut v
 
-  none_answered : (cut : Cut) → MayCut (Asks.Dump since) cut → (mets : List Meeting) → answered mets (session_over v) (dump_in cut).commands ≡ []
+  none_answered : (cut : Cut) → MayCut (Asks.Dump since most) cut → (mets : List Meeting) → answered mets (session_over v) (dump_in cut).commands ≡ []
   none_answered None may mets = answered_none mets (session_over v)
   none_answered (Some (Damages found)) may mets = answered_none mets (session_over v)
   none_answered (Some (BySector k t)) may mets = answered_none mets (session_over v)
   none_answered (Some (ByFault k why)) may mets = absurd may
   none_answered (Some (ByRefusal k)) may mets = absurd may
 
-  dumps_none : (cut : Cut) → MayCut (Asks.Dump since) cut → ChangeNone (turns_with (dump_in cut) [])
+  dumps_none : (cut : Cut) → MayCut (Asks.Dump since most) cut → ChangeNone (turns_with (dump_in cut) [])
   dumps_none None may = each_changes_none said_turn (λ x. refl) (dump_of since v)
   dumps_none (Some (Damages found)) may = each_changes_none damage_turn (λ x. refl) found
   dumps_none (Some (BySector k t)) may = each_taken (λ t. t.changes ≡ []) (suc k) (map said_turn (dump_of since v)) (each_changes_none said_turn (λ x. refl) (dump_of since v))
   dumps_none (Some (ByFault k why)) may = absurd may
   dumps_none (Some (ByRefusal k)) may = absurd may
 
-  dump_changes_none : (cut : Cut) → MayCut (Asks.Dump since) cut → (mets : List Meeting) → ChangeNone (turns_of (dump_in cut) mets (session_over v))
+  dump_changes_none : (cut : Cut) → MayCut (Asks.Dump since most) cut → (mets : List Meeting) → ChangeNone (turns_of (dump_in cut) mets (session_over v))
   dump_changes_none cut may mets = subst (λ (done : List Answered). ChangeNone (turns_with (dump_in cut) done)) (sym (none_answered cut may mets)) (dumps_none cut may)
 
-pub dump_ends : (Shown : Image → Type 0) (since : Serial) (said : List ℕ) (s next : Files) (status : ℕ) → Ends Shown (Asks.Dump since) [] s said status next → next ≡ s
+pub dump_ends : (Shown : Image → Type 0) (since : Serial) (said : List ℕ) (s next : Files) (status : ℕ) → Ends Shown (Asks.Dump since most) [] s said status next → next ≡ s
 dump_ends Shown since said s next status x =
     let p = x.plays in
     x.files ∙ ap (fold step s) (none_changed (turns_in p) (dump_changes_none since p.volume p.cut p.may p.mets))
 
-pub dump_stops : (Shown : Image → Type 0) (since : Serial) (said : List ℕ) (s next : Files) → Stops Shown (Asks.Dump since) [] s said next → next ≡ s
+pub dump_stops : (Shown : Image → Type 0) (since : Serial) (said : List ℕ) (s next : Files) → Stops Shown (Asks.Dump since most) [] s said next → next ≡ s
 dump_stops Shown since said s next (inl (fault, is)) = is
 dump_stops Shown since said s next (inr x) =
     let p = x.plays in
@@ -421,7 +421,7 @@ said_parts [] = refl
 said_parts (part ∷ parts) = ap (λ (bytes : List ℕ). part ++ bytes) (said_parts parts)
 
 -- a dump that ends with 0 has said all of it
-dump_said : (since : Serial) (v : Volume) (cut : Cut) → MayCut (Asks.Dump since) cut → (mets : List Meeting) → 0 ≡ ((dump_in since v cut).ends (answered mets (session_over v) (dump_in since v cut).commands)).status
+dump_said : (since : Serial) (v : Volume) (cut : Cut) → MayCut (Asks.Dump since most) cut → (mets : List Meeting) → 0 ≡ ((dump_in since v cut).ends (answered mets (session_over v) (dump_in since v cut).commands)).status
     → said_in (turns_of (dump_in since v cut) mets (session_over v)) ≡ concat (dump_of since v)
 dump_said since v None may mets nought = ap (λ (done : List Answered). said_in (turns_with (dump_in since v None) done)) (none_answered since v None may mets) ∙ said_parts (dump_of since v)
 dump_said since v (Some (Damages found)) may mets nought = absurd (omega (arith, nought))
@@ -442,7 +442,7 @@ loads_are files (y ∷ s) (e ∷ entries) found lists =
 one_list : (xs ys : List Dumped) → ◌≡◌ {A = ItemsRead} (Ok xs) (Ok ys) → xs ≡ ys
 one_list xs ys e = cc
 
-pub full_restored : (Shown Other : Image → Type 0) (since : Serial) (said more : List ℕ) (s between next : Files) → T (is_sorted key_cmp s) → (x : Ends Shown (Asks.Dump since) [] s said 0 between) → IsFull since x.plays.volume
+pub full_restored : (Shown Other : Image → Type 0) (since : Serial) (said more : List ℕ) (s between next : Files) → T (is_sorted key_cmp s) → (x : Ends Shown (Asks.Dump since most) [] s said 0 between) → IsFull since x.plays.volume
     → Ends Other Asks.Restore said [] more 0 next → next ≡ s
 full_restored Shown Other since said more s between next sorted x full y =
     let p = x.plays in

@@ -100,7 +100,7 @@ mounts_give (Asks.Put name keep) P mounts p = p
 mounts_give (Asks.One command) P mounts p = p
 mounts_give Asks.Script P mounts p = p
 mounts_give (Asks.Generate seed count) P mounts p = p
-mounts_give (Asks.Dump since) P mounts p = p
+mounts_give (Asks.Dump since most) P mounts p = p
 mounts_give Asks.Restore P mounts p = p
 mounts_give Asks.NoCommand P mounts p = absurd mounts
 mounts_give (Asks.BadField cause) P mounts p = absurd mounts
@@ -123,8 +123,8 @@ goes_meet hurt Past t Last e said i s (x ∷ xs) (command ∷ commands) (j, at, 
 
 plays_so : (request : Request) (cut : Cut) (Past : ℕ → Moment → Type 0) (t : ℕ) (base : List ℕ) (v : Volume) (i : Image) (done : List Answered) → GoesSo request cut (Past t) base v i done → PlaysSo (OfPast Past) request cut v i done
 plays_so Asks.Restore cut Past t base v i done so = so
-plays_so (Asks.Dump since) (Some (Damages found)) Past t base v i done (some, (j, stood, picks)) = (some, (j, stood_there Past t base j stood, picks))
-plays_so (Asks.Dump since) (Some (BySector k s)) Past t base v i done (whole, (j, stood, spoilt)) = (whole, (j, stood_there Past t (base ++ concat (take (suc k) (dump_of since v))) j stood, spoilt))
+plays_so (Asks.Dump since most) (Some (Damages found)) Past t base v i done (some, (j, stood, picks)) = (some, (j, stood_there Past t base j stood, picks))
+plays_so (Asks.Dump since most) (Some (BySector k s)) Past t base v i done (whole, (j, stood, spoilt)) = (whole, (j, stood_there Past t (base ++ concat (take (suc k) (dump_of since v))) j stood, spoilt))
 plays_so request cut Past t base v i done so = tt
 
 starts_fresh : (l : Layout) (windows : List WeakRun) (h : List Change) (v : Volume) (i : Image) → Starts l windows h v i → IsFresh i (after h) v

@@ -59,9 +59,15 @@ pub fn puts_are_found_whole_or_not<M: Machine>()
 /// A dump of all versions that has ended with 0, restored where there are no files to an end with 0, gives the files that
 /// it was made of.
 pub fn full_dumps_restore_the_files<M: Machine>()
-    ensures { (m other : M) (since : Serial) (said more : List ℕ) (s between next : Files) → T (is_sorted key_cmp s) →
-        (x : Ends (HasShown M.Machine m) (Dump since) [] s said 0 between) → IsFull since x.plays.volume →
+    ensures { (m other : M) (since : Serial) (most : Option ℕ) (said more : List ℕ) (s between next : Files) → T (is_sorted key_cmp s) →
+        (x : Ends (HasShown M.Machine m) (Dump since most) [] s said 0 between) → IsFull since most x.plays.volume →
         Ends (HasShown M.Machine other) Restore said [] more 0 next → next ≡ s }
+{}
+
+/// A dump that may have so many bytes at most has no more, where it ends with 0.
+pub fn dumps_have_so_many_bytes_at_most<M: Machine>()
+    ensures { (m : M) (since : Serial) (most : ℕ) (said : List ℕ) (s next : Files) → Ends (HasShown M.Machine m) (Dump since (Some most)) [] s said 0 next →
+        length said ≤ most }
 {}
 
 /// A worked history: a put that was stopped at any moment, and a list that ended, over a volume that was formatted.

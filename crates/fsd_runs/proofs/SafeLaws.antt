@@ -79,7 +79,7 @@ errand_otherwise (Asks.Put name keep) input = λ v. input_otherwise (nat_lt max_
 errand_otherwise (Asks.One command) input = λ v. alone_otherwise command
 errand_otherwise Asks.Script input = λ v done e. script_otherwise (script_in input).1 e
 errand_otherwise (Asks.Generate seed count) input = λ v done e. absurd (omega (arith, e))
-errand_otherwise (Asks.Dump since) input = λ v done e. absurd (omega (arith, e))
+errand_otherwise (Asks.Dump since most) input = λ v done e. absurd (omega (arith, e))
 errand_otherwise Asks.Restore input = λ v. input_otherwise (nat_lt max_input (length input)) (restore_of (dumped_in input) v) (restore_otherwise (dumped_in input) v)
 errand_otherwise request input = tt
 
@@ -89,7 +89,7 @@ if_mounts (Asks.Put name keep) P Q so p = so p
 if_mounts (Asks.One command) P Q so p = so p
 if_mounts Asks.Script P Q so p = so p
 if_mounts (Asks.Generate seed count) P Q so p = so p
-if_mounts (Asks.Dump since) P Q so p = so p
+if_mounts (Asks.Dump since most) P Q so p = so p
 if_mounts Asks.Restore P Q so p = so p
 if_mounts request P Q so p = tt
 

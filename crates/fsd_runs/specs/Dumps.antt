@@ -1,5 +1,5 @@
 -- Which versions a dump of a volume has, and what it is.
-use Rattle.std.specs.Prelude.{◌≡◌, ℕ, Bool, ◌&&◌, ◌||◌, ◌==◌, List, [], ◌∷◌, map, filter, Option, Some, None, Contains, is_some, nat_lt, if◌then◌else◌, slice_get}
+use Rattle.std.specs.Prelude.{◌≡◌, ℕ, Bool, ◌&&◌, ◌||◌, ◌==◌, List, [], ◌∷◌, map, filter, Option, Some, None, Contains, is_some, nat_lt, if◌then◌else◌, slice_get, not, true, ◌+◌, length, sum_by, Result, Ok, Err}
 use Rattle.std.specs.List.{AllByRecursion, fold}
 use Rattle.std.specs.FinMap.{find}
 use Rattle.fsd_bytes.specs.declared.key.Key.{Key}
@@ -15,6 +15,7 @@ use Rattle.fsd_files.specs.Files.{File, Files}
 use Rattle.fsd_files.specs.Kept.{IsWhole, data_sectors}
 use Rattle.fsd_files.specs.Scrub.{all_data}
 use Rattle.fsd_files.specs.Volume.{Volume}
+use Rattle.fsd_runs.specs.declared.span.Span.{Span}
 
 -- ---- serials
 
@@ -33,11 +34,23 @@ first_serial = record { epoch = 0; count = 0 }
 abbrev pub latest_of : List Entry → Serial
 latest_of entries = fold later_of first_serial (map (λ e. e.serial) entries)
 
+-- in front of this one, where there is one
+abbrev pub is_before : Option Serial → Serial → Bool
+is_before None s = true
+is_before (Some bound) s = serial_lt s bound
+
+abbrev pub is_in_span : Span → Serial → Bool
+is_in_span span s = serial_lt span.since s && is_before span.before s
+
 -- ---- what is chosen
 
--- the versions whose serial is greater
-abbrev pub chosen : Serial → List Entry → List Entry
-chosen since entries = filter (λ e. serial_lt since e.serial) entries
+-- the versions whose serial is in the span
+abbrev pub chosen : Span → List Entry → List Entry
+chosen span entries = filter (λ e. is_in_span span e.serial) entries
+
+-- those in front of its end
+abbrev pub made_before : Option Serial → List Entry → List Entry
+made_before bound entries = filter (λ e. is_before bound e.serial) entries
 
 abbrev pub bytes_found : Option File → List ℕ
 bytes_found None = []
@@ -47,9 +60,56 @@ bytes_found (Some file) = file.bytes
 abbrev pub dumped_of : Files → Entry → Dumped
 dumped_of files e = record { key = e.key; keep = e.keep; kind = 0; bytes = bytes_found (find key_cmp e.key files) }
 
--- the dump of the versions whose serial is greater, in parts: its head has the greatest serial of all versions
-abbrev pub dump_of : Serial → Volume → List (List ℕ)
-dump_of since v = dump_parts (latest_of v.entries) (map (dumped_of v.files) (chosen since v.entries))
+-- the dump of the versions of a span, in parts: its head has the greatest serial of all versions in front of its end
+abbrev pub dump_of : Span → Volume → List (List ℕ)
+dump_of span v = dump_parts (latest_of (made_before span.before v.entries)) (map (dumped_of v.files) (chosen span v.entries))
+
+-- ---- the span of a dump that has so many bytes at most
+
+-- how many bytes the dump of these versions has: a head of 16, an end of 8, and of each version 12, its name and its bytes
+abbrev pub dump_length : List Entry → ℕ
+dump_length entries = 24 + sum_by (λ e. 12 + length e.key.name + e.length) entries
+
+-- all behind this one
+abbrev pub all_since : Serial → Span
+all_since since = record { since = since; before = None }
+
+-- the versions behind the one, up to the other
+abbrev pub made_up_to : (since last : Serial) → List Entry → List Entry
+made_up_to since last entries = filter (λ e. not (serial_lt last e.serial)) (chosen (all_since since) entries)
+
+-- up to this one, or of no version
+abbrev pub length_up_to : (since : Serial) → List Entry → (last : Option Serial) → ℕ
+length_up_to since entries None = dump_length []
+length_up_to since entries (Some last) = dump_length (made_up_to since last entries)
+
+-- the serials that are behind this one
+abbrev pub serials_since : Serial → List Entry → List Serial
+serials_since since entries = map (λ e. e.serial) (chosen (all_since since) entries)
+
+abbrev pub earlier_of : Serial → Serial → Serial
+earlier_of a b = if serial_lt b a then b else a
+
+-- the least of these
+abbrev pub earliest : List Serial → Option Serial
+earliest [] = None
+earliest (s ∷ serials) = Some (fold earlier_of s serials)
+
+-- the first serial with which the dump is longer, if there is one
+abbrev pub first_over : (most : ℕ) → (since : Serial) → List Entry → Option Serial
+first_over most since entries = earliest (filter (λ s. nat_lt most (length_up_to since entries (Some s))) (serials_since since entries))
+
+-- the dump of the version that was made first, or of none
+abbrev pub least_length : (since : Serial) → List Entry → ℕ
+least_length since entries = length_up_to since entries (earliest (serials_since since entries))
+
+-- the span of all that is behind a serial, or of as many of the least serials as so many bytes hold; or how many bytes the
+-- dump of the first one has, where that is more
+abbrev pub span_of : (since : Serial) → (most : Option ℕ) → List Entry → Result Span ℕ
+span_of since None entries = Ok (all_since since)
+span_of since (Some most) entries =
+    if nat_lt most (least_length since entries) then Err (least_length since entries)
+    else Ok (record { since = since; before = first_over most since entries })
 
 -- ---- what may be damaged
 

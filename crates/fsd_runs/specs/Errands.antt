@@ -1,10 +1,10 @@
 -- What a run does over the volume that it has mounted, by what the words ask for.
 use Rattle.std.specs.Option.{option_or}
-use Rattle.std.specs.Prelude.{ℕ, suc, Bool, true, false, List, [], ◌∷◌, length, map, take, Option, Some, None, Ok, Err, sum_by, nat_lt, if◌then◌else◌}
+use Rattle.std.specs.Prelude.{ℕ, suc, Bool, true, false, List, [], ◌∷◌, length, map, take, Option, Some, None, Result, Ok, Err, sum_by, nat_lt, if◌then◌else◌}
 use Rattle.fsd_files.specs.Desk.{Session}
 use Rattle.fsd_bytes.specs.declared.key.Key.{Key}
-use Rattle.fsd_bytes.specs.declared.key.Serial.{Serial}
 use Rattle.fsd_bytes.specs.declared.refusal.Refusal.{Refusal}
+use Rattle.fsd_bytes.specs.declared.refusal.Refusal.TheVariants as Why
 use Rattle.fsd_dumps.specs.Dump.{Dumped}
 use Rattle.fsd_dumps.specs.Front.{ItemsRead, dumped_in}
 use Rattle.fsd_files.specs.Files.{Change}
@@ -28,7 +28,8 @@ use Rattle.fsd_texts.specs.Generator.{made_up}
 use Rattle.fsd_runs.specs.declared.request.Request.{Request}
 use Rattle.fsd_runs.specs.declared.request.Request.TheVariants.{Put, One, Script, Generate, Dump, Restore}
 use Rattle.fsd_runs.specs.Commands.{reply_text, reply_alone, reply_status}
-use Rattle.fsd_runs.specs.Dumps.{dump_of, first_there}
+use Rattle.fsd_runs.specs.declared.span.Span.{Span}
+use Rattle.fsd_runs.specs.Dumps.{dump_of, first_there, span_of}
 use Rattle.fsd_runs.specs.Sessions.{changes_in_session}
 
 -- a command, its reply, and the changes that were accepted with it
@@ -190,19 +191,20 @@ generated seed count = record {
 
 -- ---- dumps
 
--- the parts of the dump are said one after another
-abbrev pub dumping : Serial → Volume → Errand
-dumping since v = record { commands = []; says = λ reply. []; forces = λ reply. false; ends = λ done. record { turns = map said_turn (dump_of since v); status = 0 } }
-
--- ---- restores
-
 -- a line that is said once all is forced
 abbrev pub forced_line : Line → ℕ → Ending
 forced_line line status = record { turns = record { said = text line; changes = []; forces = true } ∷ []; status = status }
 
--- nothing is made again, and the line says why
-abbrev pub restoring_none : Line → Errand
-restoring_none line = record { commands = []; says = λ reply. []; forces = λ reply. false; ends = λ done. forced_line line 1 }
+-- nothing is done, and the line says why
+abbrev pub refusing : Line → Errand
+refusing line = record { commands = []; says = λ reply. []; forces = λ reply. false; ends = λ done. forced_line line 1 }
+
+-- the parts of the dump are said one after another, where so many bytes hold the first version
+abbrev pub dumping : Result Span ℕ → Volume → Errand
+dumping (Ok span) v = record { commands = []; says = λ reply. []; forces = λ reply. false; ends = λ done. record { turns = map said_turn (dump_of span v); status = 0 } }
+dumping (Err need) v = refusing (Says.Refused (Why.TooLong need))
+
+-- ---- restores
 
 abbrev pub load_of : Dumped → ScriptCommand
 load_of x = Plain (Word.Load x.key x.keep x.bytes)
@@ -226,11 +228,11 @@ restoring items = record { commands = map load_of items; says = λ reply. []; fo
 
 -- where none is there already
 abbrev pub restoring_unless : Option Key → List Dumped → Errand
-restoring_unless (Some key) items = restoring_none (Says.Exists key)
+restoring_unless (Some key) items = refusing (Says.Exists key)
 restoring_unless None items = restoring items
 
 abbrev pub restore_of : ItemsRead → Volume → Errand
-restore_of (Err place) v = restoring_none (Says.NoDump place)
+restore_of (Err place) v = refusing (Says.NoDump place)
 restore_of (Ok items) v = restoring_unless (first_there items v.entries) items
 
 -- ---- by what the words ask for
@@ -246,7 +248,7 @@ errand_of (Put name keep) input v = of_input input (errand_alone (Word.Put name 
 errand_of (One command) input v = errand_alone command
 errand_of Script input v = scripted (script_in input)
 errand_of (Generate seed count) input v = generated seed count
-errand_of (Dump since) input v = dumping since v
+errand_of (Dump since most) input v = dumping (span_of since most v.entries) v
 errand_of Restore input v = of_input input (restore_of (dumped_in input) v)
 errand_of request input v = nothing_but Ends.NotVolume
 
@@ -256,7 +258,7 @@ IfMounts (Put name keep) P = P
 IfMounts (One command) P = P
 IfMounts Script P = P
 IfMounts (Generate seed count) P = P
-IfMounts (Dump since) P = P
+IfMounts (Dump since most) P = P
 IfMounts Restore P = P
 IfMounts request P = Unit {0}
 
@@ -284,8 +286,8 @@ MayCut Script (Some (ByFault k Ends.Input)) = Unit {0}
 MayCut Script (Some (ByFault k Ends.WornOut)) = Unit {0}
 MayCut (Generate seed count) (Some (ByFault k Ends.WornOut)) = Unit {0}
 MayCut Restore (Some (ByRefusal k)) = Unit {0}
-MayCut (Dump since) (Some (Damages found)) = Unit {0}
-MayCut (Dump since) (Some (BySector k s)) = Unit {0}
+MayCut (Dump since most) (Some (Damages found)) = Unit {0}
+MayCut (Dump since most) (Some (BySector k s)) = Unit {0}
 MayCut request cut = ⊥
 
 -- the head, and so many versions

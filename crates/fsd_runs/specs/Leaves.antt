@@ -136,7 +136,8 @@ pub record IsUnderWay (l : Layout) (windows : List WeakRun) (h : List Change) (n
   pub sound : Held (λ c. IsSound l windows (h ++ changes_in (take (suc whole) turns)) (n + forced) c.image)
 
 -- A fault from outside has ended the run at once: its line is said behind some whole turns, and its status given.
--- What is held back is of these turns and of the one under way. Where memory was refused, that one has changed nothing.
+-- What is held back is of these turns and of the one under way. Where memory was refused, that one has changed nothing;
+-- where the input failed, nothing was done at all.
 pub record IsBrokenOff (request : Request) (Undone : (whole : ℕ) → Image → Type 0) (UnderWay : (whole : ℕ) → Type 0) (before after : Report) (turns : List Turn) (old new : Moment) (result : ℕ) : Type 0 where
   pub why : Fault
   pub outside : IsOutside request before after why
@@ -144,6 +145,7 @@ pub record IsBrokenOff (request : Request) (Undone : (whole : ℕ) → Image →
   pub says : SaysThen turns (fault_text why) old new
   pub held : UnderWay says.whole
   pub undone : why ≡ Ends.Memory → Undone says.whole new.image
+  pub unread : why ≡ Ends.Input → (says.whole ≡ 0) × Undone says.whole new.image
 
 -- so it is in front of the settling, where nothing was done
 abbrev pub Unbegun : (whole : ℕ) → Image → Type 0

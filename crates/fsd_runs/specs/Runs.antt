@@ -1,5 +1,5 @@
 -- Runs over a mounted volume: what is said, what is changed, and how much of it is forced.
-use Rattle.std.specs.Prelude.{◌≡◌, ◌⊎◌, ◌≤◌, ℕ, ◌+◌, ◌-◌, ◌^◌, List, [], ◌∷◌, ◌++◌, length, map, suc, take, slice_get, Option, Some, None, IfSome, IsSome, IsTrue, IsFalse, ⊤, ◌==◌, if◌then◌else◌}
+use Rattle.std.specs.Prelude.{◌≡◌, ◌⊎◌, ◌≤◌, ℕ, ◌+◌, ◌-◌, ◌^◌, List, [], ◌∷◌, ◌++◌, length, map, suc, take, slice_get, Option, Some, None, IfSome, IsSome, IsTrue, IsFalse, Result, Ok, Err, ⊤, ◌==◌, if◌then◌else◌}
 use Rattle.std.specs.List.{concat, list_any, flat_map}
 use Rattle.volume_layout.specs.declared.layout.Layout.{Layout}
 use Rattle.sector_disk.specs.declared.sector.WeakRun.{WeakRun}
@@ -19,10 +19,10 @@ use Rattle.fsd_texts.specs.declared.fault.Fault.TheVariants as Ends
 use Rattle.fsd_texts.specs.declared.command.Command.{Command}
 use Rattle.fsd_texts.specs.declared.script_command.ScriptCommand.{ScriptCommand}
 use Rattle.fsd_texts.specs.declared.script_command.ScriptCommand.TheVariants.{Plain}
-use Rattle.fsd_bytes.specs.declared.key.Serial.{Serial}
+use Rattle.fsd_runs.specs.declared.span.Span.{Span}
 use Rattle.fsd_runs.specs.declared.request.Request.{Request}
 use Rattle.fsd_runs.specs.declared.request.Request.TheVariants.{Dump, Restore}
-use Rattle.fsd_runs.specs.Dumps.{AreWhole, IsSpoiltAt, chosen, dump_of}
+use Rattle.fsd_runs.specs.Dumps.{AreWhole, IsSpoiltAt, chosen, dump_of, span_of}
 use Rattle.fsd_runs.specs.Commands.{answer, changes_of}
 use Rattle.fsd_runs.specs.Errands.{Answered, ByFault, ByRefusal, BySector, Cut, Damages, Errand, MayCut, Turn, answered_so, blank, cut_off, errand_of, first_refusal}
 use Rattle.fsd_runs.specs.Sessions.{Meeting, MayMeet, answer_in, finished, may_wear_out_in, session_over}
@@ -170,17 +170,18 @@ IsRestoredSo cut done = first_refusal done ≡ None
 -- Once its head is said, no data sector of its versions was damaged as a dump began. It tells those that it has met at
 -- its first reading, at an image of the run at which nothing was said; and ends behind the versions in front of one with
 -- a sector that was whole then and is damaged at an image at which these were said.
-abbrev pub IsDumpedSo : Serial → Cut → (Passed : Moment → Type 0) → (base : List ℕ) → Volume → Image → Type 0
-IsDumpedSo since None Passed base v i = (m : Moment) (more : List ℕ) → Passed m → m.said ≡ base ++ (concat (take 1 (dump_of since v)) ++ more) → AreWhole i (chosen since v.entries)
-IsDumpedSo since (Some (Damages found)) Passed base v i = IsFalse (length found == 0) × ((j : Image) × StoodAt Passed base j × Picks i j (all_data (chosen since v.entries)) found)
-IsDumpedSo since (Some (BySector k s)) Passed base v i =
-    AreWhole i (chosen since v.entries) × ((j : Image) × StoodAt Passed (base ++ concat (take (suc k) (dump_of since v))) j × IsSpoiltAt j (chosen since v.entries) k s)
-IsDumpedSo since cut Passed base v i = ⊥
+abbrev pub IsDumpedSo : Result Span ℕ → Cut → (Passed : Moment → Type 0) → (base : List ℕ) → Volume → Image → Type 0
+IsDumpedSo (Ok span) None Passed base v i = (m : Moment) (more : List ℕ) → Passed m → m.said ≡ base ++ (concat (take 1 (dump_of span v)) ++ more) → AreWhole i (chosen span v.entries)
+IsDumpedSo (Ok span) (Some (Damages found)) Passed base v i = IsFalse (length found == 0) × ((j : Image) × StoodAt Passed base j × Picks i j (all_data (chosen span v.entries)) found)
+IsDumpedSo (Ok span) (Some (BySector k s)) Passed base v i =
+    AreWhole i (chosen span v.entries) × ((j : Image) × StoodAt Passed (base ++ concat (take (suc k) (dump_of span v))) j × IsSpoiltAt j (chosen span v.entries) k s)
+IsDumpedSo (Err need) None Passed base v i = ⊤
+IsDumpedSo span cut Passed base v i = ⊥
 
 -- what is asked of the replies of a restore, and of how a dump goes
 abbrev pub GoesSo : Request → Cut → (Passed : Moment → Type 0) → (base : List ℕ) → Volume → Image → List Answered → Type 0
 GoesSo Restore cut Passed base v i done = IsRestoredSo cut done
-GoesSo (Dump since) cut Passed base v i done = IsDumpedSo since cut Passed base v i
+GoesSo (Dump since most) cut Passed base v i done = IsDumpedSo (span_of since most v.entries) cut Passed base v i
 GoesSo request cut Passed base v i done = ⊤
 
 -- What the words ask for is done over this volume, from the image i on: where it is cut off, if it is, and what the

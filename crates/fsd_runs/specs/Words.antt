@@ -21,7 +21,7 @@ use Rattle.fsd_runs.specs.declared.request.Request.TheVariants.{NoCommand, BadFi
 abbrev pub positional : Text → Rule
 positional id = record (new_rule id) { required = true }
 
--- an option with a value, as `--keep K` and `--layout V`
+-- an option with a value, as `--keep K`, `--layout V` and `--bytes B`
 abbrev pub option : Text → Rule
 option id = record (new_rule id) { long = Some id }
 
@@ -45,7 +45,7 @@ cfs = record {
       ∷ subcommand (codes "stat") (image ∷ [])
       ∷ subcommand (codes "scrub") (image ∷ [])
       ∷ subcommand (codes "upgrade") (image ∷ [])
-      ∷ subcommand (codes "dump") (image ∷ positional (codes "e") ∷ positional (codes "c") ∷ [])
+      ∷ subcommand (codes "dump") (image ∷ positional (codes "e") ∷ positional (codes "c") ∷ option (codes "bytes") ∷ [])
       ∷ subcommand (codes "restore") (image ∷ [])
       ∷ subcommand (codes "script") (image ∷ [])
       ∷ subcommand (codes "generate") (image ∷ positional (codes "seed") ∷ positional (codes "count") ∷ [])
@@ -64,9 +64,10 @@ max_u64 = 2 ^ 64 - 1
 abbrev pub seed_in : List ℕ → Result ℕ Cause
 seed_in w = ok_or (read_number max_u64 w) BadNumber
 
-abbrev pub keep_in : Option (List ℕ) → Result (Option ℕ) Cause
-keep_in None = Ok None
-keep_in (Some w) = number_in w >>= λ keep. Ok (Some keep)
+-- the number of an option, where that is given
+abbrev pub if_given : Option (List ℕ) → Result (Option ℕ) Cause
+if_given None = Ok None
+if_given (Some w) = number_in w >>= λ n. Ok (Some n)
 
 -- of the layout with this number
 abbrev pub kind_numbered : ℕ → Result Kind Cause
@@ -88,7 +89,7 @@ reads_format rows = do
 abbrev pub reads_put : List Row → Result Request Cause
 reads_put rows = do
   name ← name_in (field (codes "name") rows)
-  keep ← keep_in (first_of (codes "keep") rows)
+  keep ← if_given (first_of (codes "keep") rows)
   Ok (Put name keep)
 
 abbrev pub reads_keep : List Row → Result Request Cause
@@ -107,7 +108,8 @@ abbrev pub reads_dump : List Row → Result Request Cause
 reads_dump rows = do
   e ← number_in (field (codes "e") rows)
   c ← number_in (field (codes "c") rows)
-  Ok (Dump (record { epoch = e; count = c }))
+  most ← if_given (first_of (codes "bytes") rows)
+  Ok (Dump (record { epoch = e; count = c }) most)
 
 abbrev pub reads_generate : List Row → Result Request Cause
 reads_generate rows = do

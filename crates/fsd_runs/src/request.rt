@@ -29,8 +29,12 @@ pub enum Request {
         seed: u64,
         count: u32,
     },
-    /// The versions whose serial is greater are to be said as one text.
-    Dump(Serial),
+    /// The versions whose serial is greater are to be said as one text; or as many of those that were made first as a
+    /// text of so many bytes holds.
+    Dump {
+        since: Serial,
+        most: Option<u32>,
+    },
     /// The input is such a text, whose versions are to be made again.
     Restore,
     /// Lives of volumes in memory. It names no image.

@@ -4,7 +4,6 @@ use Rattle.std.specs.List.{concat}
 use Rattle.volume_layout.specs.declared.layout.Layout.{Layout}
 use Rattle.volume_layout.specs.Layout.{is_data}
 use Rattle.fsd_bytes.specs.declared.key.Key.{Key}
-use Rattle.fsd_bytes.specs.declared.key.Serial.{Serial}
 use Rattle.fsd_bytes.specs.declared.refusal.Refusal.{Refusal}
 use Rattle.fsd_bytes.specs.declared.refusal.Refusal.TheVariants as Why
 use Rattle.sector_disk.specs.declared.machine.Machine.{Ghosts}
@@ -17,6 +16,7 @@ use Rattle.fsd_files.specs.Disk.{Image}
 use Rattle.fsd_files.specs.Scrub.{Picks, all_data}
 use Rattle.fsd_files.specs.Volume.{Volume}
 use Rattle.fsd_sound.specs.Mounted.{Mounted}
+use Rattle.fsd_runs.specs.declared.span.Span.{Span}
 use Rattle.fsd_runs.specs.Dumps.{AreWhole, IsSpoiltAt, chosen, dump_of}
 use Rattle.volume_contract.specs.Ends.{device_of}
 use Rattle.volume_contract.specs.Order.{Asks, CallStep, Comes, Data, LookUp, Through, down}
@@ -86,44 +86,44 @@ TellsDump l i other = ⊤
 -- ---- over a volume that stands
 
 -- what a stop leaves: some first bytes of the dump are said
-abbrev pub LeavesDumped : {S : Type 0} → (state : S → State) → (has : S → Mounted → List Placed → Type 0) → S → Serial → Moment → Moment → Type 0
-LeavesDumped state has s since old left = SaysSome old left × ((k : Known) → Stands state has s k old → Utters (concat (dump_of since (volume_of k))) old left)
+abbrev pub LeavesDumped : {S : Type 0} → (state : S → State) → (has : S → Mounted → List Placed → Type 0) → S → Span → Moment → Moment → Type 0
+LeavesDumped state has s span old left = SaysSome old left × ((k : Known) → Stands state has s k old → Utters (concat (dump_of span (volume_of k))) old left)
 
 -- So many versions are chosen, none of their data sectors was damaged as it began, and their dump is said.
-pub record HasDumped (since : Serial) (v : Volume) (old new : Moment) (count : ℕ) : Type 0 where
-  pub whole : AreWhole old.image (chosen since v.entries)
-  pub counts : count ≡ length (chosen since v.entries)
-  pub said : new.said ≡ old.said ++ concat (dump_of since v)
+pub record HasDumped (span : Span) (v : Volume) (old new : Moment) (count : ℕ) : Type 0 where
+  pub whole : AreWhole old.image (chosen span v.entries)
+  pub counts : count ≡ length (chosen span v.entries)
+  pub said : new.said ≡ old.said ++ concat (dump_of span v)
 
 -- Of their data sectors those that read damaged are found, and no others; nothing is said.
-pub record FindsDamages (since : Serial) (v : Volume) (old new : Moment) (found : List (Key × ℕ)) : Type 0 where
+pub record FindsDamages (span : Span) (v : Volume) (old new : Moment) (found : List (Key × ℕ)) : Type 0 where
   pub some : IsFalse (length found == 0)
-  pub finds : Picks old.image new.image (all_data (chosen since v.entries)) found
+  pub finds : Picks old.image new.image (all_data (chosen span v.entries)) found
   pub quiet : new.said ≡ old.said
 
 -- None was damaged as it began, but one of the version is now that is next behind those that are said.
-pub record IsCutOff (since : Serial) (v : Volume) (old new : Moment) (s : ℕ) : Type 0 where
-  pub whole : AreWhole old.image (chosen since v.entries)
+pub record IsCutOff (span : Span) (v : Volume) (old new : Moment) (s : ℕ) : Type 0 where
+  pub whole : AreWhole old.image (chosen span v.entries)
   pub count : ℕ
-  pub spoilt : IsSpoiltAt new.image (chosen since v.entries) count s
-  pub said : new.said ≡ old.said ++ concat (take (suc count) (dump_of since v))
+  pub spoilt : IsSpoiltAt new.image (chosen span v.entries) count s
+  pub said : new.said ≡ old.said ++ concat (take (suc count) (dump_of span v))
 
 -- None was damaged as it began, and some first parts are said, not all.
-pub record SaysParts (since : Serial) (v : Volume) (old new : Moment) : Type 0 where
-  pub whole : AreWhole old.image (chosen since v.entries)
+pub record SaysParts (span : Span) (v : Volume) (old new : Moment) : Type 0 where
+  pub whole : AreWhole old.image (chosen span v.entries)
   pub count : ℕ
-  pub more : IsSome (slice_get (dump_of since v) count)
-  pub said : new.said ≡ old.said ++ concat (take count (dump_of since v))
+  pub more : IsSome (slice_get (dump_of span v) count)
+  pub said : new.said ≡ old.said ++ concat (take count (dump_of span v))
 
 -- a fault from outside has ended it, at its first reading, or between two parts
-abbrev pub BreaksOff : Serial → Volume → (old new : Moment) → Type 0
-BreaksOff since v old new = (new.said ≡ old.said) ⊎ SaysParts since v old new
+abbrev pub BreaksOff : Span → Volume → (old new : Moment) → Type 0
+BreaksOff span v old new = (new.said ≡ old.said) ⊎ SaysParts span v old new
 
-abbrev pub EndsDump : Serial → Volume → (old new : Moment) → Result ℕ DumpFault → Type 0
-EndsDump since v old new (Ok count) = HasDumped since v old new count
-EndsDump since v old new (Err (Found found)) = FindsDamages since v old new found.items
-EndsDump since v old new (Err (Cut s)) = IsCutOff since v old new s
-EndsDump since v old new (Err Output) = AreWhole old.image (chosen since v.entries)
-EndsDump since v old new (Err Memory) = BreaksOff since v old new
-EndsDump since v old new (Err (Refused (Why.Device s))) = BreaksOff since v old new
-EndsDump since v old new (Err (Refused other)) = ⊥
+abbrev pub EndsDump : Span → Volume → (old new : Moment) → Result ℕ DumpFault → Type 0
+EndsDump span v old new (Ok count) = HasDumped span v old new count
+EndsDump span v old new (Err (Found found)) = FindsDamages span v old new found.items
+EndsDump span v old new (Err (Cut s)) = IsCutOff span v old new s
+EndsDump span v old new (Err Output) = AreWhole old.image (chosen span v.entries)
+EndsDump span v old new (Err Memory) = BreaksOff span v old new
+EndsDump span v old new (Err (Refused (Why.Device s))) = BreaksOff span v old new
+EndsDump span v old new (Err (Refused other)) = ⊥

@@ -1,4 +1,5 @@
 pub mod Dump
 pub mod Told
+pub mod Spanning
 pub mod Surveying
 pub mod Saying

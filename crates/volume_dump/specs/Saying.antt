@@ -1,7 +1,6 @@
 -- What is said of the versions, one after another.
 use Rattle.std.specs.Prelude.{◌≡◌, ⊤, ℕ, suc, Bool, List, [], ◌∷◌, ◌++◌, length, map, take, Option, Some, Contains, IsSome, IsTrue, Result, Ok, Err, slice_get}
 use Rattle.std.specs.List.{concat}
-use Rattle.fsd_bytes.specs.declared.key.Serial.{Serial}
 use Rattle.fsd_bytes.specs.declared.refusal.Refusal.TheVariants as Why
 use Rattle.fsd_dumps.specs.Dump.{Dumped, item_bytes}
 use Rattle.fsd_formats.specs.declared.entry.Entry.{Entry}
@@ -16,7 +15,8 @@ use Rattle.fsd_files.specs.Files.{Files}
 use Rattle.fsd_files.specs.Kept.{data_sectors}
 use Rattle.fsd_files.specs.Volume.{Volume}
 use Rattle.fsd_sound.specs.Mounted.{Mounted}
-use Rattle.fsd_runs.specs.Dumps.{IsSpoiltAt, chosen, dump_of, dumped_of, latest_of, serial_lt}
+use Rattle.fsd_runs.specs.declared.span.Span.{Span}
+use Rattle.fsd_runs.specs.Dumps.{IsSpoiltAt, chosen, dump_of, dumped_of, is_in_span, latest_of, made_before}
 use Rattle.volume_contract.specs.State.{Known, Stands, State, volume_of}
 use Rattle.scrub.specs.Walk.{IsWalked}
 use Rattle.fsd_bytes.specs.declared.key.Key.{Key}
@@ -32,12 +32,12 @@ abbrev pub with_bytes : Entry → List ℕ → Dumped
 with_bytes e bytes = record { key = e.key; keep = e.keep; kind = 0; bytes = bytes }
 
 -- the chosen ones of these entries, each as it is said
-abbrev pub items_of : Serial → Files → List Entry → List (List ℕ)
-items_of since files entries = map item_bytes (map (dumped_of files) (chosen since entries))
+abbrev pub items_of : Span → Files → List Entry → List (List ℕ)
+items_of span files entries = map item_bytes (map (dumped_of files) (chosen span entries))
 
 -- and all together
-abbrev pub said_of : Serial → Files → List Entry → List ℕ
-said_of since files entries = concat (items_of since files entries)
+abbrev pub said_of : Span → Files → List Entry → List ℕ
+said_of span files entries = concat (items_of span files entries)
 
 -- ---- any volume
 
@@ -65,73 +65,73 @@ IsUnread e j (Refused (Why.Device s)) = ⊤
 IsUnread e j other = ⊥
 
 -- An entry is chosen, and one of its data sectors is damaged.
-pub record SpoilsEntry (since : Serial) (e : Entry) (j : Image) (s : ℕ) : Type 0 where
-  pub chosen_is : IsTrue (serial_lt since e.serial)
+pub record SpoilsEntry (span : Span) (e : Entry) (j : Image) (s : ℕ) : Type 0 where
+  pub chosen_is : IsTrue (is_in_span span e.serial)
   pub own : Contains (data_sectors e.runs) s
   pub damaged : sector_at j s ≡ Damaged
 
 -- one entry is said, where it is chosen; or nothing is, but where the output fails
-abbrev pub EndsEntry : {T : Type 0} → Serial → Volume → Entry → (old new : Moment) → Result T DumpFault → Type 0
-EndsEntry since v e old new (Ok x) = new.said ≡ old.said ++ said_of since v.files (e ∷ [])
-EndsEntry since v e old new (Err (Cut s)) = SpoilsEntry since e new.image s × (new.said ≡ old.said)
-EndsEntry since v e old new (Err Output) = ⊤
-EndsEntry since v e old new (Err Memory) = new.said ≡ old.said
-EndsEntry since v e old new (Err (Refused (Why.Device s))) = new.said ≡ old.said
-EndsEntry since v e old new (Err other) = ⊥
+abbrev pub EndsEntry : {T : Type 0} → Span → Volume → Entry → (old new : Moment) → Result T DumpFault → Type 0
+EndsEntry span v e old new (Ok x) = new.said ≡ old.said ++ said_of span v.files (e ∷ [])
+EndsEntry span v e old new (Err (Cut s)) = SpoilsEntry span e new.image s × (new.said ≡ old.said)
+EndsEntry span v e old new (Err Output) = ⊤
+EndsEntry span v e old new (Err Memory) = new.said ≡ old.said
+EndsEntry span v e old new (Err (Refused (Why.Device s))) = new.said ≡ old.said
+EndsEntry span v e old new (Err other) = ⊥
 
 -- The first ones of the entries are said, as far as they are chosen.
-pub record HasSaid (since : Serial) (v : Volume) (count : ℕ) (last : Option Key) (old now : Moment) : Type 0 where
+pub record HasSaid (span : Span) (v : Volume) (count : ℕ) (last : Option Key) (old now : Moment) : Type 0 where
   pub front : List Entry
   pub walked : IsWalked v.entries front count last
-  pub said : now.said ≡ old.said ++ said_of since v.files front
+  pub said : now.said ≡ old.said ++ said_of span v.files front
 
 -- So it is of some first ones.
-pub record SaysFront (since : Serial) (v : Volume) (old now : Moment) : Type 0 where
+pub record SaysFront (span : Span) (v : Volume) (old now : Moment) : Type 0 where
   pub front : List Entry
   pub rest : List Entry
   pub all : v.entries ≡ front ++ rest
-  pub said : now.said ≡ old.said ++ said_of since v.files front
+  pub said : now.said ≡ old.said ++ said_of span v.files front
 
 -- So it is of those in front of one that is damaged.
-pub record SaysBefore (since : Serial) (v : Volume) (old now : Moment) (s : ℕ) : Type 0 where
+pub record SaysBefore (span : Span) (v : Volume) (old now : Moment) (s : ℕ) : Type 0 where
   pub front : List Entry
   pub entry : Entry
   pub rest : List Entry
   pub all : v.entries ≡ front ++ entry ∷ rest
-  pub spoils : SpoilsEntry since entry now.image s
-  pub said : now.said ≡ old.said ++ said_of since v.files front
+  pub spoils : SpoilsEntry span entry now.image s
+  pub said : now.said ≡ old.said ++ said_of span v.files front
 
-abbrev pub EndsEntries : {T : Type 0} → Serial → Volume → (old new : Moment) → Result T DumpFault → Type 0
-EndsEntries since v old new (Ok x) = new.said ≡ old.said ++ said_of since v.files v.entries
-EndsEntries since v old new (Err (Cut s)) = SaysBefore since v old new s
-EndsEntries since v old new (Err Output) = ⊤
-EndsEntries since v old new (Err Memory) = SaysFront since v old new
-EndsEntries since v old new (Err (Refused (Why.Device s))) = SaysFront since v old new
-EndsEntries since v old new (Err other) = ⊥
+abbrev pub EndsEntries : {T : Type 0} → Span → Volume → (old new : Moment) → Result T DumpFault → Type 0
+EndsEntries span v old new (Ok x) = new.said ≡ old.said ++ said_of span v.files v.entries
+EndsEntries span v old new (Err (Cut s)) = SaysBefore span v old new s
+EndsEntries span v old new (Err Output) = ⊤
+EndsEntries span v old new (Err Memory) = SaysFront span v old new
+EndsEntries span v old new (Err (Refused (Why.Device s))) = SaysFront span v old new
+EndsEntries span v old new (Err other) = ⊥
 
 -- ---- the whole text
 
 -- The head is to tell so.
-pub record IsHeaded (since : Serial) (s : Tally) (k : Known) : Type 0 where
-  pub count : s.chosen ≡ length (chosen since (volume_of k).entries)
-  pub latest : s.latest ≡ latest_of (volume_of k).entries
+pub record IsHeaded (span : Span) (s : Tally) (k : Known) : Type 0 where
+  pub count : s.chosen ≡ length (chosen span (volume_of k).entries)
+  pub latest : s.latest ≡ latest_of (made_before span.before (volume_of k).entries)
 
 -- All parts in front of the version are said that is damaged.
-pub record SaysUpTo (since : Serial) (v : Volume) (old new : Moment) (s : ℕ) : Type 0 where
+pub record SaysUpTo (span : Span) (v : Volume) (old new : Moment) (s : ℕ) : Type 0 where
   pub count : ℕ
-  pub spoilt : IsSpoiltAt new.image (chosen since v.entries) count s
-  pub said : new.said ≡ old.said ++ concat (take (suc count) (dump_of since v))
+  pub spoilt : IsSpoiltAt new.image (chosen span v.entries) count s
+  pub said : new.said ≡ old.said ++ concat (take (suc count) (dump_of span v))
 
 -- Some first parts are said, not all.
-pub record SaysFirst (since : Serial) (v : Volume) (old new : Moment) : Type 0 where
+pub record SaysFirst (span : Span) (v : Volume) (old new : Moment) : Type 0 where
   pub count : ℕ
-  pub more : IsSome (slice_get (dump_of since v) count)
-  pub said : new.said ≡ old.said ++ concat (take count (dump_of since v))
+  pub more : IsSome (slice_get (dump_of span v) count)
+  pub said : new.said ≡ old.said ++ concat (take count (dump_of span v))
 
-abbrev pub EndsSaying : Serial → Volume → (old new : Moment) → (count : ℕ) → Result ℕ DumpFault → Type 0
-EndsSaying since v old new count (Ok n) = (n ≡ count) × (new.said ≡ old.said ++ concat (dump_of since v))
-EndsSaying since v old new count (Err (Cut s)) = SaysUpTo since v old new s
-EndsSaying since v old new count (Err Output) = ⊤
-EndsSaying since v old new count (Err Memory) = SaysFirst since v old new
-EndsSaying since v old new count (Err (Refused (Why.Device s))) = SaysFirst since v old new
-EndsSaying since v old new count (Err other) = ⊥
+abbrev pub EndsSaying : Span → Volume → (old new : Moment) → (count : ℕ) → Result ℕ DumpFault → Type 0
+EndsSaying span v old new count (Ok n) = (n ≡ count) × (new.said ≡ old.said ++ concat (dump_of span v))
+EndsSaying span v old new count (Err (Cut s)) = SaysUpTo span v old new s
+EndsSaying span v old new count (Err Output) = ⊤
+EndsSaying span v old new count (Err Memory) = SaysFirst span v old new
+EndsSaying span v old new count (Err (Refused (Why.Device s))) = SaysFirst span v old new
+EndsSaying span v old new count (Err other) = ⊥

@@ -3,9 +3,12 @@
 
 mod fault;
 mod saying;
+mod serials;
+mod span;
 mod survey;
 mod whole;
 
 pub use dump_text::{DumpRead, Item, read_dump};
 pub use fault::DumpFault;
+pub use span::span_in;
 pub use whole::dump;

@@ -13,10 +13,11 @@ ghost use Rattle.volume_dump.specs.Saying.{EndsEntries, EndsEntry, EndsSaying, I
 ghost use Rattle.volume_dump.specs.declared.fault.DumpFault.TheVariants.{Output};
 
 use crate::fault::{DumpFault, fault_of};
-use crate::survey::{Tally, serial_lt};
+use crate::serials::is_in_span;
+use crate::survey::Tally;
 use dump_text::{end_of, front_of, head_of};
-use fsd_bytes::Serial;
 use fsd_formats::Entry;
+use fsd_runs::Span;
 use scrub::next_one;
 use sector_disk::Machine;
 use std::alloc::Global;
@@ -82,17 +83,17 @@ fn say_chosen<M: Machine, V: Files<M>>(
     v: &mut V,
     m: &mut M,
     e: &Entry,
-    since: Serial,
+    span: Span,
 ) -> Result<(), DumpFault>
     requires room { (V.state v.old).layout.sectors ≤ (M.report m.old).sectors }
     requires up { (V.state v.old).down ≡ None }
     requires met { IsMet (V.state v.old) e.now }
     ensures order { FollowsDump (V.state v.old) result }
-    ensures says { SaysVolume M.Machine V.state V.holds (device_in_dump result) (is_unsaid_dump result) (LeavesSaying V.state V.holds v.old (IsEntered e.now) (λ k. said_of since (volume_of k).files (e.now ∷ []))) v.old v.new m.old m.new }
+    ensures says { SaysVolume M.Machine V.state V.holds (device_in_dump result) (is_unsaid_dump result) (LeavesSaying V.state V.holds v.old (IsEntered e.now) (λ k. said_of span (volume_of k).files (e.now ∷ []))) v.old v.new m.old m.new }
     ensures tells { M.honest m.new → TellsDump (V.state v.old).layout (M.now m.new).image result }
-    ensures done { M.honest m.new → (k : Known) → Stands V.state V.holds v.old k (M.now m.old) → IsEntered e.now k → EndsEntry since (volume_of k) e.now (M.now m.old) (M.now m.new) result }
+    ensures done { M.honest m.new → (k : Known) → Stands V.state V.holds v.old k (M.now m.old) → IsEntered e.now k → EndsEntry span (volume_of k) e.now (M.now m.old) (M.now m.new) result }
 {
-    if !serial_lt(since, e.serial) {
+    if !is_in_span(span, e.serial) {
         return Ok(());
     }
     match read_version(alloc, v, m, e) {
@@ -106,19 +107,19 @@ fn say_versions<M: Machine, V: Files<M>>(
     alloc: Global,
     v: &mut V,
     m: &mut M,
-    since: Serial,
+    span: Span,
 ) -> Result<(), DumpFault>
     requires room { (V.state v.old).layout.sectors ≤ (M.report m.old).sectors }
     requires up { (V.state v.old).down ≡ None }
     ensures order { FollowsDump (V.state v.old) result }
-    ensures says { SaysVolume M.Machine V.state V.holds (device_in_dump result) (is_unsaid_dump result) (LeavesSaying V.state V.holds v.old (λ k. ⊤) (λ k. said_of since (volume_of k).files (volume_of k).entries)) v.old v.new m.old m.new }
+    ensures says { SaysVolume M.Machine V.state V.holds (device_in_dump result) (is_unsaid_dump result) (LeavesSaying V.state V.holds v.old (λ k. ⊤) (λ k. said_of span (volume_of k).files (volume_of k).entries)) v.old v.new m.old m.new }
     ensures tells { M.honest m.new → TellsDump (V.state v.old).layout (M.now m.new).image result }
-    ensures done { M.honest m.new → (k : Known) → Stands V.state V.holds v.old k (M.now m.old) → EndsEntries since (volume_of k) (M.now m.old) (M.now m.new) result }
+    ensures done { M.honest m.new → (k : Known) → Stands V.state V.holds v.old k (M.now m.old) → EndsEntries span (volume_of k) (M.now m.old) (M.now m.new) result }
 {
     let mut last = None;
     for _ in 0..v.stat().versions {
         match next_one(v, m, &last) {
-            Ok(Some(e)) => match say_chosen(alloc, v, m, &e, since) {
+            Ok(Some(e)) => match say_chosen(alloc, v, m, &e, span) {
                 Ok(()) => last = Some(e.key),
                 Err(fault) => return Err(fault),
             },
@@ -134,18 +135,18 @@ pub(crate) fn say_all<M: Machine, V: Files<M>>(
     alloc: Global,
     v: &mut V,
     m: &mut M,
-    since: Serial,
+    span: Span,
     tally: Tally,
 ) -> Result<u32, DumpFault>
     requires room { (V.state v.old).layout.sectors ≤ (M.report m.old).sectors }
     requires up { (V.state v.old).down ≡ None }
     ensures order { FollowsDump (V.state v.old) result }
-    ensures says { SaysVolume M.Machine V.state V.holds (device_in_dump result) (is_unsaid_dump result) (LeavesSaying V.state V.holds v.old (IsHeaded since tally) (λ k. concat (dump_of since (volume_of k)))) v.old v.new m.old m.new }
+    ensures says { SaysVolume M.Machine V.state V.holds (device_in_dump result) (is_unsaid_dump result) (LeavesSaying V.state V.holds v.old (IsHeaded span tally) (λ k. concat (dump_of span (volume_of k)))) v.old v.new m.old m.new }
     ensures tells { M.honest m.new → TellsDump (V.state v.old).layout (M.now m.new).image result }
-    ensures done { M.honest m.new → (k : Known) → Stands V.state V.holds v.old k (M.now m.old) → IsHeaded since tally k → EndsSaying since (volume_of k) (M.now m.old) (M.now m.new) tally.chosen result }
+    ensures done { M.honest m.new → (k : Known) → Stands V.state V.holds v.old k (M.now m.old) → IsHeaded span tally k → EndsSaying span (volume_of k) (M.now m.old) (M.now m.new) tally.chosen result }
 {
     match say_part(m, &head_of(tally.chosen, tally.latest)) {
-        Ok(()) => match say_versions(alloc, v, m, since) {
+        Ok(()) => match say_versions(alloc, v, m, span) {
             Ok(()) => match say_part(m, &end_of(tally.chosen)) {
                 Ok(()) => Ok(tally.chosen),
                 Err(fault) => Err(fault),

@@ -2,7 +2,7 @@
 ghost use Rattle.std.specs.Prelude.{◌≡◌, ◌+◌, ◌^◌, ◌<◌, ◌≤◌, ◌∷◌, [], None, IfErr, IfOk};
 ghost use Rattle.sector_disk.specs.Calls.{device_in};
 ghost use Rattle.fsd_files.specs.Scrub.{all_data};
-ghost use Rattle.fsd_runs.specs.Dumps.{chosen, later_of, serial_lt};
+ghost use Rattle.fsd_runs.specs.Dumps.{chosen};
 ghost use Rattle.volume_contract.specs.Ends.{device_of};
 ghost use Rattle.volume_contract.specs.Healing.{IsMet};
 ghost use Rattle.volume_contract.specs.Order.{Follows, IsFetch, IsLookUp, next_steps};
@@ -13,30 +13,19 @@ ghost use Rattle.scrub.specs.Telling.{TellsOn};
 ghost use Rattle.scrub.specs.Walk.{IsFromOutside};
 ghost use Rattle.volume_dump.specs.Surveying.{CountsOne, EndsSurvey};
 
+use crate::serials::{is_before, later_of, serial_lt};
 use fsd_bytes::{Key, Refusal, Serial};
 use fsd_formats::Entry;
+use fsd_runs::Span;
 use scrub::{look_through, next_one};
 use sector_disk::Machine;
 use volume_contract::Files;
 
-/// How many versions are chosen, and the greatest serial of all.
+/// How many versions are chosen, and the greatest serial of all in front of the end of the span.
 #[derive(Clone, Copy)]
 pub(crate) struct Tally {
     pub chosen: u32,
     pub latest: Serial,
-}
-
-/// Whether a serial comes before another.
-pub(crate) fn serial_lt(a: Serial, b: Serial) -> bool
-    ensures { result ≡ serial_lt a b }
-{
-    a.epoch < b.epoch || (a.epoch == b.epoch && a.count < b.count)
-}
-
-fn later_of(a: Serial, b: Serial) -> Serial
-    ensures { result ≡ later_of a b }
-{
-    if serial_lt(a, b) { b } else { a }
 }
 
 // Surveys one version more.
@@ -44,7 +33,7 @@ fn survey_one<M: Machine, V: Files<M>>(
     v: &mut V,
     m: &mut M,
     e: &Entry,
-    since: Serial,
+    span: Span,
     so_far: Tally,
     found: &mut Vec<(Key, u32)>,
 ) -> Result<Tally, Refusal>
@@ -55,12 +44,15 @@ fn survey_one<M: Machine, V: Files<M>>(
     ensures refusal { IfErr result IsFetch }
     ensures outside { IfErr result IsFromOutside }
     ensures reads { ReadsVolume M.Machine V.state V.holds (device_in device_of result) v.old v.new m.old m.new }
-    ensures counts { IfOk result (CountsOne since e.now so_far) }
+    ensures counts { IfOk result (CountsOne span e.now so_far) }
     ensures damaged { M.honest m.new → AreDamaged (V.state v.old).layout (M.now m.old).image found.old.items → AreDamaged (V.state v.old).layout (M.now m.new).image found.new.items }
-    ensures adds { M.honest m.new → Adds (M.now m.old).image (M.now m.new).image (all_data (chosen since (e.now ∷ []))) found.old.items found.new.items result }
+    ensures adds { M.honest m.new → Adds (M.now m.old).image (M.now m.new).image (all_data (chosen span (e.now ∷ []))) found.old.items found.new.items result }
 {
+    if !is_before(span.before, e.serial) {
+        return Ok(so_far);
+    }
     let latest = later_of(so_far.latest, e.serial);
-    if !serial_lt(since, e.serial) {
+    if !serial_lt(span.since, e.serial) {
         return Ok(Tally {
             chosen: so_far.chosen,
             latest,
@@ -79,7 +71,7 @@ fn survey_one<M: Machine, V: Files<M>>(
 fn survey_all<M: Machine, V: Files<M>>(
     v: &mut V,
     m: &mut M,
-    since: Serial,
+    span: Span,
     found: &mut Vec<(Key, u32)>,
 ) -> Result<Tally, Refusal>
     requires room { (V.state v.old).layout.sectors ≤ (M.report m.old).sectors }
@@ -89,7 +81,7 @@ fn survey_all<M: Machine, V: Files<M>>(
     ensures reads { ReadsVolume M.Machine V.state V.holds (device_in device_of result) v.old v.new m.old m.new }
     ensures told { IfErr result (λ why. M.honest m.new → TellsOn (V.state v.old).layout (M.now m.new).image why) }
     ensures damaged { M.honest m.new → AreDamaged (V.state v.old).layout (M.now m.new).image found.new.items }
-    ensures done { M.honest m.new → (k : Known) → Stands V.state V.holds v.old k (M.now m.old) → EndsSurvey since (volume_of k).entries (M.now m.old).image (M.now m.new).image found.new.items result }
+    ensures done { M.honest m.new → (k : Known) → Stands V.state V.holds v.old k (M.now m.old) → EndsSurvey span (volume_of k).entries (M.now m.old).image (M.now m.new).image found.new.items result }
 {
     let mut so_far = Tally {
         chosen: 0,
@@ -98,7 +90,7 @@ fn survey_all<M: Machine, V: Files<M>>(
     let mut last = None;
     for _ in 0..v.stat().versions {
         match next_one(v, m, &last) {
-            Ok(Some(e)) => match survey_one(v, m, &e, since, so_far, found) {
+            Ok(Some(e)) => match survey_one(v, m, &e, span, so_far, found) {
                 Ok(more) => {
                     so_far = more;
                     last = Some(e.key);
@@ -117,7 +109,7 @@ fn survey_all<M: Machine, V: Files<M>>(
 pub(crate) fn survey<M: Machine, V: Files<M>>(
     v: &mut V,
     m: &mut M,
-    since: Serial,
+    span: Span,
     found: &mut Vec<(Key, u32)>,
 ) -> Result<Tally, Refusal>
     requires room { (V.state v.old).layout.sectors ≤ (M.report m.old).sectors }
@@ -126,10 +118,10 @@ pub(crate) fn survey<M: Machine, V: Files<M>>(
     ensures reads { ReadsVolume M.Machine V.state V.holds (device_in device_of result) v.old v.new m.old m.new }
     ensures told { IfErr result (λ why. M.honest m.new → TellsOn (V.state v.old).layout (M.now m.new).image why) }
     ensures damaged { M.honest m.new → AreDamaged (V.state v.old).layout (M.now m.new).image found.new.items }
-    ensures done { M.honest m.new → (k : Known) → Stands V.state V.holds v.old k (M.now m.old) → EndsSurvey since (volume_of k).entries (M.now m.old).image (M.now m.new).image found.new.items result }
+    ensures done { M.honest m.new → (k : Known) → Stands V.state V.holds v.old k (M.now m.old) → EndsSurvey span (volume_of k).entries (M.now m.old).image (M.now m.new).image found.new.items result }
 {
     match next_one(v, m, &None) {
-        Ok(_) => survey_all(v, m, since, found),
+        Ok(_) => survey_all(v, m, span, found),
         Err(why) => Err(why),
     }
 }

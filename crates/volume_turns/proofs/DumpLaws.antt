@@ -79,7 +79,7 @@ not_head zero why whole first is = let none : None ≡ Some 67 = ap first_byte i
 not_head (suc n) why whole first is =
     absurd (apart 102 67 (omega arith) (sym (first_taken n (fault_text why) 102 (fault_first why)) ∙ (ap first_byte is ∙ first)))
 
-pub dump_unsaid : (since : Serial) → GoesUnsaid (Dump since)
+pub dump_unsaid : (since : Serial) → GoesUnsaid (Dump since most)
 dump_unsaid since Passed base v i only c more passed said =
     let part = only c passed in
     let fault = part.1 in

@@ -130,7 +130,7 @@ module _ {S D : Type 0} (state : S → State) (has : S → Mounted → List Plac
     passed_d : M.left_since d (M.moment a) (M.now d)
     passed_d = let at_d = timed d honest in at_d.history.sooner (M.moment a) (M.moment d) (M.now d) (let x = (reads.any_moment back).later in let y = (disk.any_moment honest).later in omega (arith, x, y)) at_d.here
 
-    whole_out : (count : ℕ) → HasDumped since (volume_of k) (M.now m) (M.now d) count → RunsOut M (Dump since) input rest (M.report a) k a d 0
+    whole_out : (count : ℕ) → HasDumped since (volume_of k) (M.now m) (M.now d) count → RunsOut M (Dump since most) input rest (M.report a) k a d 0
     whole_out count has_all =
         let is : said_in turns ≡ concat parts = said_parts parts in
         let run = run_to (concat parts) has_all.said in
@@ -153,7 +153,7 @@ module _ {S D : Type 0} (state : S → State) (has : S → Mounted → List Plac
           so = λ c more passed said. whole_a has_all.whole;
         }
 
-    sector_out : (s : ℕ) → IsCutOff since (volume_of k) (M.now m) (M.now d) s → RunsOut M (Dump since) input rest (M.report a) k a d 8
+    sector_out : (s : ℕ) → IsCutOff since (volume_of k) (M.now m) (M.now d) s → RunsOut M (Dump since most) input rest (M.report a) k a d 8
     sector_out s x =
         let front = take (suc x.count) turns in
         let bytes = concat (take (suc x.count) parts) in
@@ -183,7 +183,7 @@ module _ {S D : Type 0} (state : S → State) (has : S → Mounted → List Plac
     unsaid_run : LeavesOnly M.moment M.left_since m d (Utters (concat parts) (M.now m))
     unsaid_run = leaves_more M.moment M.left_since m d (LeavesDumped state has v since (M.now m)) (Utters (concat parts) (M.now m)) (λ c x. x.1 k (stands_synced state has M k v a m wears stands on short timed reads back)) (disk.any_moment honest)
 
-    unsaid_out : AreWhole (M.now m).image (chosen since (volume_of k).entries) → RunsOut M (Dump since) input rest (M.report a) k a d 6
+    unsaid_out : AreWhole (M.now m).image (chosen since (volume_of k).entries) → RunsOut M (Dump since most) input rest (M.report a) k a d 6
     unsaid_out whole = record {
       cut = None;
       may = tt;
@@ -220,7 +220,7 @@ module _ {S D : Type 0} (state : S → State) (has : S → Mounted → List Plac
         let rose : Rose (M.report d).output_faults (M.report b).output_faults = subst (λ (x : Bool). Counts x (M.report d).output_faults (M.report b).output_faults) (eq-eqb status 6 six) end.says.spares.output in
         record { ends = six; rose = subst (λ (n : ℕ). Rose n (M.report b).output_faults) (disk.output ∙ told.output) rose }
 
-    pub found_out : (found : List (Key × ℕ)) → gives ≡ 8 → bytes ≡ damages_text found → FindsDamages since (volume_of k) (M.now m) (M.now d) found → RunsOut M (Dump since) input rest (M.report a) k a b status
+    pub found_out : (found : List (Key × ℕ)) → gives ≡ 8 → bytes ≡ damages_text found → FindsDamages since (volume_of k) (M.now m) (M.now d) found → RunsOut M (Dump since most) input rest (M.report a) k a b status
     found_out found eight is x =
         let run = run_behind [] (quiet_d x.quiet) in
         record {
@@ -246,7 +246,7 @@ module _ {S D : Type 0} (state : S → State) (has : S → Mounted → List Plac
         }
       where
         by : (status ≡ 6) ⊎ ((status ≡ gives) × SaysAll bytes (M.now d) (M.now b)) → LeavesOnly M.moment M.left_since m b (Utters bytes (M.now m))
-            → SaysOut M (errand_in (Dump since) input (Some (Damages found)) (volume_of k)) k [] a b status ⊎ (IsUnsaid (M.report a) (M.report b) status ⊎ IsBrokenOff (Dump since) (Undone k (forced_of k) (map damage_turn found)) (UnderWay M k (map damage_turn found) b) (M.report a) (M.report b) (map damage_turn found) (M.now a) (M.now b) status)
+            → SaysOut M (errand_in (Dump since most) input (Some (Damages found)) (volume_of k)) k [] a b status ⊎ (IsUnsaid (M.report a) (M.report b) status ⊎ IsBrokenOff (Dump since most) (Undone k (forced_of k) (map damage_turn found)) (UnderWay M k (map damage_turn found) b) (M.report a) (M.report b) (map damage_turn found) (M.now a) (M.now b) status)
         by (inl six) run = inr (inl (rose_b six))
         by (inr (given, all)) run = inl (record {
           through = refl;
@@ -278,7 +278,7 @@ module _ {S D : Type 0} (state : S → State) (has : S → Mounted → List Plac
       told_d : FaultTold {T = Unit {0}} (M.report a) (M.report d) (Err (Stopped why))
       told_d = told_more (M.report a) (M.report m) (M.report d) tt (Err (Stopped why)) told counted
 
-      broken_out : IsDumpedSo since None (M.left_since b (M.moment a)) (M.now a).said (volume_of k) (M.now a).image → RunsOut M (Dump since) input rest (M.report a) k a b status
+      broken_out : IsDumpedSo since None (M.left_since b (M.moment a)) (M.now a).said (volume_of k) (M.now a).image → RunsOut M (Dump since most) input rest (M.report a) k a b status
       broken_out so = record {
         cut = None;
         may = tt;
@@ -287,8 +287,8 @@ module _ {S D : Type 0} (state : S → State) (has : S → Mounted → List Plac
           mets = [];
           ahead = tt;
           goes = λ t le. tt;
-          moments = broken_moments M (Dump since) (M.report a) k turns a d b part_stops why halted (short d honest_at) stands.ends (timed d honest_at) (timed b honest) once told_d status end.says honest (end.ends honest);
-          ends = inr (broken_ends M (Dump since) (M.report a) k turns a d b part_stops why halted (short d honest_at) stands.ends (timed d honest_at) (timed b honest) once told_d status end.says honest (end.ends honest));
+          moments = broken_moments M (Dump since most) (M.report a) k turns a d b part_stops why halted (short d honest_at) stands.ends (timed d honest_at) (timed b honest) once told_d status end.says honest (end.ends honest);
+          ends = inr (broken_ends M (Dump since most) (M.report a) k turns a d b part_stops why halted (short d honest_at) stands.ends (timed d honest_at) (timed b honest) once told_d status end.says honest (end.ends honest));
         };
         rooted = tt;
         so = so;
@@ -307,7 +307,7 @@ module _ {S D : Type 0} (state : S → State) (has : S → Mounted → List Plac
     only_fault : (M.now d).said ≡ (M.now m).said → (c : Moment) → M.left_since b (M.moment a) c → (part : List ℕ) × SaysFault part × (c.said ≡ (M.now a).said ++ part)
     only_fault same c left = let u = (fault_run same).each c left in (take u.heard (fault_text why), (why, u.heard, at_once_ends why once, refl), u.said)
 
-    fault_out : BreaksOff since (volume_of k) (M.now m) (M.now d) → RunsOut M (Dump since) input rest (M.report a) k a b status
+    fault_out : BreaksOff since (volume_of k) (M.now m) (M.now d) → RunsOut M (Dump since most) input rest (M.report a) k a b status
     fault_out (inl same) = broken_out 0 refl (quiet_at same) (dump_unsaid since (M.left_since b (M.moment a)) (M.now a).said (volume_of k) (M.now a).image (only_fault same))
     fault_out (inr x) = broken_out x.count x.more x.said (λ c more passed said. whole_a x.whole)
 
@@ -316,10 +316,10 @@ module _ {S D : Type 0} (state : S → State) (has : S → Mounted → List Plac
     at_d : b ≡ d → M.honest d
     at_d same = subst (λ (x : D). M.honest x) same honest
 
-    ended_at : (n : ℕ) → b ≡ d → status ≡ n → RunsOut M (Dump since) input rest (M.report a) k a d n → RunsOut M (Dump since) input rest (M.report a) k a b status
-    ended_at n same is out = subst (λ (i : ℕ). RunsOut M (Dump since) input rest (M.report a) k a b i) (sym is) (subst (λ (x : D). RunsOut M (Dump since) input rest (M.report a) k a x n) (sym same) out)
+    ended_at : (n : ℕ) → b ≡ d → status ≡ n → RunsOut M (Dump since most) input rest (M.report a) k a d n → RunsOut M (Dump since most) input rest (M.report a) k a b status
+    ended_at n same is out = subst (λ (i : ℕ). RunsOut M (Dump since most) input rest (M.report a) k a b i) (sym is) (subst (λ (x : D). RunsOut M (Dump since most) input rest (M.report a) k a x n) (sym same) out)
 
-    pub dump_out : (r : Result ℕ DumpFault) → ReadsAndSays M (device_in_dump r) (is_unsaid_dump r) (LeavesDumped state has v since) m d → (M.honest d → EndsDump since (volume_of k) (M.now m) (M.now d) r) → EndsBehind M r d b status → RunsOut M (Dump since) input rest (M.report a) k a b status
+    pub dump_out : (r : Result ℕ DumpFault) → ReadsAndSays M (device_in_dump r) (is_unsaid_dump r) (LeavesDumped state has v since) m d → (M.honest d → EndsDump since (volume_of k) (M.now m) (M.now d) r) → EndsBehind M r d b status → RunsOut M (Dump since most) input rest (M.report a) k a b status
     dump_out (Ok count) disk done end = ended_at 0 end.0 end.1 (whole_out None d disk (at_d end.0) count (done (at_d end.0)))
     dump_out (Err (Faults.Cut s)) disk done end = ended_at 8 end.0 end.1 (sector_out None d disk (at_d end.0) s (done (at_d end.0)))
     dump_out (Err Faults.Output) disk done end = ended_at 6 end.0 end.1 (unsaid_out None d disk (at_d end.0) (done (at_d end.0)))
@@ -350,7 +350,7 @@ module _ {S D : Type 0} (state : S → State) (has : S → Mounted → List Plac
   line_run = then_on M.moment M.left_since a m b (Utters (fault_text why) (M.now a)) (wears_run M a m reads back (fault_text why))
       (leaves_more M.moment M.left_since m b (Utters (fault_text why) (M.now m)) (Utters (fault_text why) (M.now a)) (λ c u. utters_behind [] (fault_text why) (M.now a) (M.now m) c (wears_say (M.now a) (M.now m) worn_m) u) (says.any_moment honest))
 
-  pub unsynced_out : RunsOut M (Dump since) input rest (M.report a) k a b status
+  pub unsynced_out : RunsOut M (Dump since most) input rest (M.report a) k a b status
   unsynced_out = record {
     cut = None;
     may = tt;
@@ -359,8 +359,8 @@ module _ {S D : Type 0} (state : S → State) (has : S → Mounted → List Plac
       mets = [];
       ahead = tt;
       goes = λ t le. tt;
-      moments = broken_moments M (Dump since) (M.report a) k all_turns a m b stops_m why halted_m (short m back) stands.ends (timed m back) (timed b honest) once told status says honest ended;
-      ends = inr (broken_ends M (Dump since) (M.report a) k all_turns a m b stops_m why halted_m (short m back) stands.ends (timed m back) (timed b honest) once told status says honest ended);
+      moments = broken_moments M (Dump since most) (M.report a) k all_turns a m b stops_m why halted_m (short m back) stands.ends (timed m back) (timed b honest) once told status says honest ended;
+      ends = inr (broken_ends M (Dump since most) (M.report a) k all_turns a m b stops_m why halted_m (short m back) stands.ends (timed m back) (timed b honest) once told status says honest ended);
     };
     rooted = tt;
     so = dump_unsaid since (M.left_since b (M.moment a)) (M.now a).said (volume_of k) (M.now a).image (λ c left. let u = line_run.each c left in (take u.heard (fault_text why), (why, u.heard, at_once_ends why once, refl), u.said));

@@ -72,7 +72,7 @@ fn dump_on<M: Machine, V: Files<M> + Drop>(alloc: Global, v: V, m: &mut M, since
     ensures ends { EndsMounted M.Machine IsDumpStatus m.old m.new result }
     ensures takes { TakesNothing M.Machine m.old m.new result }
     ensures tells { M.honest m.new → TellsMounted Parts StandTwice (V.state v).layout ⊥ (M.now m.old) (M.now m.new) result }
-    ensures runs { M.honest m.new → (input rest : List ℕ) (k : Known) → (volume_of k).unforced ≡ 0 → Stands V.state V.holds v k (M.now m.old) → OnDisk M.Machine k (forced_of k) m.old → RunsOut M.Machine (Dump since) input rest (M.report m.old) k m.old m.new result }
+    ensures runs { M.honest m.new → (input rest : List ℕ) (k : Known) → (volume_of k).unforced ≡ 0 → Stands V.state V.holds v k (M.now m.old) → OnDisk M.Machine k (forced_of k) m.old → RunsOut M.Machine (Dump since most) input rest (M.report m.old) k m.old m.new result }
 {
     match m.sync() {
         Ok(()) => dump_and_end(alloc, v, m, since),
@@ -80,22 +80,24 @@ fn dump_on<M: Machine, V: Files<M> + Drop>(alloc: Global, v: V, m: &mut M, since
     }
 }
 
-/// Mounts a volume and says a dump of the versions whose serial is greater; or the damaged data sectors of these alone;
-/// or the fault that has ended it. It gives the status.
+/// Mounts a volume and says a dump of the versions whose serial is greater, or of as many of those that were made first as
+/// so many bytes hold; or the damaged data sectors of these alone; or the refusal or the fault that has ended it. It gives
+/// the status.
 pub fn run_dump<M: Machine, V: Files<M> + Drop>(
     alloc: Global,
     m: &mut M,
     sectors: u32,
     since: Serial,
+    most: Option<u32>,
 ) -> u8
     requires sectors { sectors ≡ (M.report m.old).sectors }
     ensures ends { EndsRun M.Machine IsDumpStatus m.old m.new result }
     ensures takes { TakesNothing M.Machine m.old m.new result }
     ensures image { M.honest m.new → TellsImage Parts StandTwice None sectors (M.now m.old) (M.now m.new) result }
-    ensures leaves { M.honest m.new → (input rest : List ℕ) → LeavesOver M.Machine (Dump since) input rest sectors m.old m.new result }
+    ensures leaves { M.honest m.new → (input rest : List ℕ) → LeavesOver M.Machine (Dump since most) input rest sectors m.old m.new result }
 {
     match V::mount(alloc, m, sectors) {
-        Ok(v) => dump_on::<M, V>(alloc, v, m, since),
+        Ok(v) => dump_on::<M, V>(alloc, v, m, since, most),
         Err(fault) => end_with(m, fault_of(fault)),
     }
 }
