@@ -23,7 +23,7 @@ use Rattle.volume_turns.specs.Turns.{InRun, Undone}
 
 -- Some of the turns are said whole, and more are to come, but for a fault. Whichever of the moments since the last sync is
 -- on the disk, it is sound for their changes and those of the next one; what is there now for theirs alone, where memory
--- was refused.
+-- was refused, and where the input failed, behind no turn.
 pub record Halted {D : Type 0} (M : Ghosts D) (k : Known) (why : Fault) (turns : List Turn) (a b : D) : Type 0 where
   pub windows : (M.now b).windows ≡ (M.now a).windows
   pub whole : ℕ
@@ -34,6 +34,7 @@ pub record Halted {D : Type 0} (M : Ghosts D) (k : Known) (why : Fault) (turns :
   pub enough : IsTrue (list_any (λ t. t.forces) (take whole turns)) → length k.changes + forced_in (take whole turns) ≤ forced
   pub sound : IsHeld M b (λ c. IsSound k.mounted.volume.layout k.windows (k.changes ++ changes_in (take (suc whole) turns)) forced c.image)
   pub undone : why ≡ Ends.Memory → Undone k (forced_of k) turns whole (M.now b).image
+  pub unread : why ≡ Ends.Input → (whole ≡ 0) × Undone k (forced_of k) turns whole (M.now b).image
 
 -- Whichever of the moments since the last sync is on the disk, it is sound for the changes of so many turns and of the one
 -- behind them.
