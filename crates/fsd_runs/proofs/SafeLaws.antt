@@ -1,6 +1,6 @@
 -- A run over a sound disk never ends as one whose mount is refused for what the disk has.
 use Rattle.std.proofs.Common.{◌≡◌, ◌⊎◌, inl, inr, ℕ, Bool, true, false, cond, List, [], ◌∷◌, ◌++◌, length, take, Option, Some, None, Ok, Err, sym, ◌∙◌, arith}
-use Rattle.std.specs.Prelude.{nat_lt}
+use Rattle.std.specs.Prelude.{Result, nat_lt}
 use Rattle.volume_layout.specs.declared.layout.Layout.{Layout}
 use Rattle.sector_disk.specs.declared.sector.WeakRun.{WeakRun}
 use Rattle.sector_disk.specs.Machine.{Moment, Report}
@@ -22,8 +22,9 @@ use Rattle.fsd_texts.specs.declared.end.End.TheVariants.{Done}
 use Rattle.fsd_texts.specs.Script.{max_input, script_in}
 use Rattle.fsd_runs.specs.declared.request.Request.{Request}
 use Rattle.fsd_runs.specs.declared.request.Request.TheVariants as Asks
-use Rattle.fsd_runs.specs.Errands.{Answered, ByFault, ByRefusal, BySector, Cut, Damages, Errand, IfMounts, MayCut, Turn, errand_alone, blank, errand_of, fault_status, first_refusal, nothing_but, restore_of, restored_unless, restoring_unless, script_ending}
-use Rattle.fsd_runs.specs.Dumps.{first_there}
+use Rattle.fsd_runs.specs.Errands.{Answered, ByFault, ByRefusal, BySector, Cut, Damages, Errand, IfMounts, MayCut, Turn, dumping, errand_alone, blank, errand_of, fault_status, first_refusal, nothing_but, restore_of, restored_unless, restoring_unless, script_ending}
+use Rattle.fsd_runs.specs.declared.span.Span.{Span}
+use Rattle.fsd_runs.specs.Dumps.{first_there, span_of}
 use Rattle.fsd_runs.specs.Commands.{reply_status}
 use Rattle.fsd_runs.specs.Leaves.{IsBrokenOff, IsOutside, IsReplied, IsUnderWay, IsUndone, IsSpent, IsUnsaid, LeavesBy, LeavesMounted, LeavesSaid, LeavesUnmounted, Unbegun, Whatever}
 use Rattle.fsd_runs.specs.Runs.{IsThrough, answered, errand_in, run_end, run_status, run_turns}
@@ -68,6 +69,10 @@ restore_otherwise : (read : ItemsRead) (v : Volume) → EndsOtherwise (restore_o
 restore_otherwise (Err place) v done e = absurd (omega (arith, e))
 restore_otherwise (Ok items) v done e = unless_otherwise (first_there items v.entries) items done e
 
+dumping_otherwise : (span : Result Span ℕ) (v : Volume) → EndsOtherwise (dumping span v)
+dumping_otherwise (Ok span) v done e = absurd (omega (arith, e))
+dumping_otherwise (Err need) v done e = absurd (omega (arith, e))
+
 -- ---- of a request that mounts, cut off or not
 
 -- over each volume
@@ -79,7 +84,7 @@ errand_otherwise (Asks.Put name keep) input = λ v. input_otherwise (nat_lt max_
 errand_otherwise (Asks.One command) input = λ v. alone_otherwise command
 errand_otherwise Asks.Script input = λ v done e. script_otherwise (script_in input).1 e
 errand_otherwise (Asks.Generate seed count) input = λ v done e. absurd (omega (arith, e))
-errand_otherwise (Asks.Dump since most) input = λ v done e. absurd (omega (arith, e))
+errand_otherwise (Asks.Dump since most) input = λ v. dumping_otherwise (span_of since most v.entries) v
 errand_otherwise Asks.Restore input = λ v. input_otherwise (nat_lt max_input (length input)) (restore_of (dumped_in input) v) (restore_otherwise (dumped_in input) v)
 errand_otherwise request input = tt
 

@@ -195,9 +195,17 @@ upgrades_to_2_alone : request_of (codes "cfs" ∷ codes "upgrade" ∷ codes "v" 
 unfolding clap_on_literals
 upgrades_to_2_alone = refl
 
-dumps : request_of (codes "cfs" ∷ codes "dump" ∷ codes "v" ∷ codes "2" ∷ codes "1" ∷ []) ≡ Dump (record { epoch = 2; count = 1 })
+dumps : request_of (codes "cfs" ∷ codes "dump" ∷ codes "v" ∷ codes "2" ∷ codes "1" ∷ []) ≡ Dump (record { epoch = 2; count = 1 }) None
 unfolding clap_on_literals
 dumps = refl
+
+dumps_so_many_bytes : request_of (codes "cfs" ∷ codes "dump" ∷ codes "v" ∷ codes "2" ∷ codes "1" ∷ codes "--bytes" ∷ codes "100" ∷ []) ≡ Dump (record { epoch = 2; count = 1 }) (Some 100)
+unfolding clap_on_literals
+dumps_so_many_bytes = refl
+
+dumps_past_the_bytes : request_of (codes "cfs" ∷ codes "dump" ∷ codes "v" ∷ codes "2" ∷ codes "1" ∷ codes "--bytes=4294967296" ∷ []) ≡ BadField BadNumber
+unfolding clap_on_literals
+dumps_past_the_bytes = refl
 
 -- both numbers have to be there
 dumps_of_one_number : request_of (codes "cfs" ∷ codes "dump" ∷ codes "v" ∷ codes "2" ∷ []) ≡ NoCommand
