@@ -1,4 +1,6 @@
 pub mod ToldLaws
+pub mod SerialLaws
+pub mod WeighLaws
 pub mod TextLaws
 pub mod SaidLaws
 pub mod EntryLaws
