@@ -1,11 +1,8 @@
 -- The order of serials, and the least of a list of them.
-use Rattle.std.proofs.Common.{◌≡◌, ◌⊎◌, inl, inr, ℕ, ◌<◌, ◌≤◌, Bool, true, false, true≢false, ◌&&◌, ◌||◌, cond, nat_lt, ◌==◌, List, [], ◌∷◌, All, Contains, Some, refl, sym, ap, ◌∙◌, subst, arith, IsPermutation, is_lt, nat_cmp, Less, Equal, Greater, ltb-true, ltb-false, lt-ltb, le-ltb, eqb-true, false-eqb}
-use Rattle.std.specs.Prelude.{map, filter}
-use Rattle.std.specs.Cmp.{IsStrictWeakOrder}
+use Rattle.std.proofs.Common.{◌≡◌, ◌⊎◌, inl, inr, ℕ, ◌<◌, ◌≤◌, Bool, true, false, true≢false, ◌&&◌, ◌||◌, cond, nat_lt, ◌==◌, List, [], ◌∷◌, All, Contains, Some, refl, sym, ap, ◌∙◌, arith, is_lt, nat_cmp, Less, Equal, Greater, ltb-true, ltb-false, lt-ltb, le-ltb, eqb-true, false-eqb}
 use Rattle.std.specs.List.{AllByRecursion, fold}
 use Rattle.std.specs.Ordering.{ordering_then}
-use Rattle.std.proofs.lemmas.List.Elements.{All-contains, All-contains_itself, All-from_recursion, recursion_from_All, All-filter, All-weaker}
-use Rattle.std.proofs.lemmas.List.Sorted.{Contains-permutation, IsPermutation-sym}
+use Rattle.std.proofs.lemmas.List.Elements.{All-contains, All-from_recursion, recursion_from_All, All-weaker}
 use Rattle.fsd_bytes.specs.declared.key.Serial.{Serial}
 use Rattle.fsd_runs.specs.Dumps.{earlier_of, earliest, serial_lt}
 
@@ -79,6 +76,7 @@ lt_ties a b first second = same (not_less a b first) (not_less b a second)
   where
     alike : a.epoch ≡ b.epoch → a.count ≡ b.count → a ≡ b
     alike epochs counts = let made : ℕ → ℕ → Serial = λ epoch count. record { epoch = epoch; count = count } in ap (λ (n : ℕ). made n a.count) epochs ∙ ap (λ (n : ℕ). made b.epoch n) counts
+
     same : IsNotLess a b → IsNotLess b a → a ≡ b
     same (inl low) (inl high) = absurd (omega (arith, low, high))
     same (inl low) (inr other) = absurd (omega (arith, low, other))

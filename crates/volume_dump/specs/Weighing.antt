@@ -1,5 +1,5 @@
 -- What versions take of a dump, and how far one goes that has so many bytes at most.
-use Rattle.std.specs.Prelude.{◌≡◌, ℕ, ◌+◌, ◌^◌, ◌<◌, All, Bool, not, List, ◌∷◌, length, map, filter, sum_by, Option, Some, None, nat_lt, if◌then◌else◌, Result, Ok, Err}
+use Rattle.std.specs.Prelude.{◌≡◌, ℕ, ◌+◌, ◌^◌, ◌<◌, All, Bool, not, List, length, map, filter, sum_by, Option, Some, None, nat_lt, if◌then◌else◌, Result, Ok, Err}
 use Rattle.fsd_bytes.specs.declared.key.Key.{Key}
 use Rattle.fsd_bytes.specs.declared.key.Serial.{Serial}
 use Rattle.fsd_bytes.specs.declared.refusal.Refusal.{Refusal}

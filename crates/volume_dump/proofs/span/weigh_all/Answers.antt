@@ -1,9 +1,7 @@
 use Rattle.std.proofs.Common.{◌≡◌, Option, None, ap, ◌∙◌, subst, arith}
-use Rattle.std.specs.Prelude.{IfSome}
 use Rattle.fsd_formats.specs.declared.entry.Entry.{Entry}
 use Rattle.fsd_files.specs.Answers.{entry_after}
 use Rattle.fsd_files.specs.declared.reply.Reply.TheVariants.{Found}
-use Rattle.volume_contract.specs.Healing.{IsMet}
 use Rattle.volume_contract.specs.State.{State, volume_of}
 use Rattle.scrub.specs.Telling.{TellsOn}
 use Rattle.scrub.proofs.LookedLaws.{outside_only}
