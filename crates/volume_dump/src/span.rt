@@ -84,7 +84,7 @@ fn weigh<M: Machine, V: Files<M>>(
 }
 
 /// The span behind a serial whose dump has `most` bytes at most: of the versions those that were made first. TooLong tells
-/// how many bytes the dump of the first one has, where that is more. It holds 24 bytes for each version.
+/// how many bytes the dump of the first one has, where that is more. It holds 16 bytes for each version behind it.
 pub fn span_in<M: Machine, V: Files<M>>(
     alloc: Global,
     v: &mut V,
