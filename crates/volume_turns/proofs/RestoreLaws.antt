@@ -34,7 +34,7 @@ use Rattle.volume_turns.specs.Once.{Anything, ClosesAndSays, EndsClosed, IsDone,
 use Rattle.volume_turns.specs.Restore.{EndsErrand, IsEnded, IsRestored}
 use Rattle.volume_turns.specs.Seats.{Seated, SitsAt, known_of, seated}
 use Rattle.volume_turns.specs.Steps.{IsToldOn}
-use Rattle.volume_turns.specs.Turns.{Behind, EndsBy, InRun, IsEndOn, OnDisk, RunsFrom, Said}
+use Rattle.volume_turns.specs.Turns.{Behind, EndsAtOnce, EndsBy, InRun, IsEndOn, OnDisk, RunsFrom, Said}
 use Rattle.volume_turns.specs.Whole.{Halted}
 use Rattle.volume_turns.proofs.GroupEndLaws.{ended_as, goes_length}
 use Rattle.volume_turns.proofs.GroupLaws.{closing_done, closing_moments, closing_unsaid, goes_wider}
@@ -102,7 +102,7 @@ module _ (commands : List ScriptCommand) (ends : List Answered → Ending) (line
       }
       ends_by (Err (Stopped why)) is c = (
         c.0,
-        subst (λ (ts : List Turn). Halted M k why ts a b) (sym turns_is) (said_halts M k why front t [] refl a b (closing_unsaid state has M silent k (M.now a) commands a m b w since at_m timed (Ok tt) ran ran.ends.1 (text line) why c.1)),
+        subst (λ (ts : List Turn). Halted M k why ts a b) (sym turns_is) (said_halts M k why c.0 front t [] refl a b (closing_unsaid state has M silent k (M.now a) commands a m b w since at_m timed (Ok tt) ran ran.ends.1 (text line) why c.1)),
       )
       ends_by (Err Output) is c = tt
 
@@ -120,15 +120,15 @@ module _ (commands : List ScriptCommand) (ends : List Answered → Ending) (line
 
     -- a fault has ended them
     module _ (end : Halt) (other : end ≡ Stopped Ends.WornOut → ⊥) (ran : RunsFrom state has M silent (seated k no_clients) (forced_of k) (M.now a) commands a m w (Err end)) where
-      halted_by : (why : Fault) → Said M k (forced_of k) why (turns_begun silent ran.mets s commands) a m → (through : Bool) → through ≡ (length (done (Err end) ran) == length commands) → Halted M k why (turns_of e ran.mets s) a m
-      halted_by why x true is = subst (λ (ts : List Turn). Halted M k why ts a m) (sym (turns_are (Err end) ran true is ∙ ap (λ (ts : List Turn). turns_begun silent ran.mets s commands ++ ts) (closes (done (Err end) ran))))
-          (said_halts M k why (turns_begun silent ran.mets s commands) (closing_turn (text (line_of (done (Err end) ran)))) [] refl a m x)
-      halted_by why x false is = subst (λ (ts : List Turn). Halted M k why ts a m) (sym (turns_are (Err end) ran false is)) (said_halts M k why (turns_begun silent ran.mets s commands) blank [] refl a m x)
+      halted_by : (why : Fault) → EndsAtOnce why → Said M k (forced_of k) why (turns_begun silent ran.mets s commands) a m → (through : Bool) → through ≡ (length (done (Err end) ran) == length commands) → Halted M k why (turns_of e ran.mets s) a m
+      halted_by why once x true is = subst (λ (ts : List Turn). Halted M k why ts a m) (sym (turns_are (Err end) ran true is ∙ ap (λ (ts : List Turn). turns_begun silent ran.mets s commands ++ ts) (closes (done (Err end) ran))))
+          (said_halts M k why once (turns_begun silent ran.mets s commands) (closing_turn (text (line_of (done (Err end) ran)))) [] refl a m x)
+      halted_by why once x false is = subst (λ (ts : List Turn). Halted M k why ts a m) (sym (turns_are (Err end) ran false is)) (said_halts M k why once (turns_begun silent ran.mets s commands) blank [] refl a m x)
 
       stops_by : (h : Halt) → (h ≡ Stopped Ends.WornOut → ⊥) → EndsBy state has M silent (seated k no_clients) (forced_of k) ran.mets commands w a m (Err h) → EndsErrand M e k ran.mets a m (Err h)
       stops_by (Stopped Ends.WornOut) never x = absurd (never refl)
       stops_by Output never x = tt
-      stops_by (Stopped why) never x = (x.0, halted_by why x.1 (length (done (Err end) ran) == length commands) refl)
+      stops_by (Stopped why) never x = (x.0, halted_by why x.0 x.1 (length (done (Err end) ran) == length commands) refl)
 
       pub ended_stop : IsEnded M e k a m (Err end)
       ended_stop = record {
