@@ -18,7 +18,7 @@ use Rattle.fsd_texts.specs.declared.line.Line.TheVariants as Says
 use Rattle.fsd_texts.specs.declared.script_command.ScriptCommand.{ScriptCommand}
 use Rattle.fsd_texts.specs.Text.{text}
 use Rattle.fsd_dumps.specs.Dump.{Dumped}
-use Rattle.fsd_runs.specs.Errands.{Answered, Ending, Errand, Turn, blank, first_refusal, forced_line, load_of, restored_unless, restoring, restoring_none}
+use Rattle.fsd_runs.specs.Errands.{Answered, Ending, Errand, Turn, blank, first_refusal, forced_line, load_of, restored_unless, restoring, refusing}
 use Rattle.fsd_runs.specs.Runs.{Goes, RefusesLast, answered, session_behind, turns_begun, turns_of}
 use Rattle.fsd_runs.specs.Sessions.{Meeting, session_over}
 use Rattle.client_desk.specs.Clients.{no_desk}
@@ -204,7 +204,7 @@ module _ {S D : Type 0} (state : S → State) (has : S → Mounted → List Plac
         }
 
     -- none is begun, and the line says why
-    pub restored_none : (line : Line) → RunsFrom state has M silent (seated k no_clients) (forced_of k) (M.now a) [] a m (w, no_desk) (Ok tt) → IfOk result (λ status. status ≡ 1) → Closing line → IsRestored M (restoring_none line) k a b result
+    pub restored_none : (line : Line) → RunsFrom state has M silent (seated k no_clients) (forced_of k) (M.now a) [] a m (w, no_desk) (Ok tt) → IfOk result (λ status. status ≡ 1) → Closing line → IsRestored M (refusing line) k a b result
     restored_none line ran same says = record {
       refused = None;
       ended = ended_last [] (λ done. forced_line line 1) (λ done. line) (λ done. refl) state has M k a m (w, no_desk) later ran b since timed line 1 refl refl result same says;
