@@ -45,7 +45,7 @@ module _ {D : Type 0} (M : Ghosts D) (request : Request) (input rest : List ℕ)
       record { ends = six; rose = omega (arith, later, rose) }
 
   broken : status ≡ fault_status why → (M.now c).said ≡ (M.now b).said ++ fault_text why → IsBrokenOff request Unbegun Whatever (M.report a) (M.report c) (blank ∷ []) (M.now a) (M.now c) status
-  broken is all = record { why = why; outside = out; ends = is; says = record { whole = 0; more = refl; said = all ∙ ap (λ (s : List ℕ). s ++ fault_text why) worn.said }; held = tt; undone = λ is. refl }
+  broken is all = record { why = why; outside = out; ends = is; says = record { whole = 0; more = refl; said = all ∙ ap (λ (s : List ℕ). s ++ fault_text why) worn.said }; held = tt; undone = λ is. refl; unread = λ is. (refl, refl) }
 
   ended : EndsWith why (M.now b) (M.now c) status → IsSpent (M.now a) (M.now c) status ⊎ (IsUnsaid (M.report a) (M.report c) status ⊎ IsBrokenOff request Unbegun Whatever (M.report a) (M.report c) (blank ∷ []) (M.now a) (M.now c) status)
   ended (inl six) = inr (inl (unsaid six))

@@ -142,6 +142,7 @@ module _ (l : Layout) (windows : List WeakRun) (h : List Change) (f : ℕ) (old 
         says = record { whole = x.says.whole; more = x.says.more; said = x.says.said ∙ ap (λ (s : List ℕ). s ++ (said_in (take x.says.whole turns) ++ fault_text x.why)) found.said };
         held = x.held;
         undone = x.undone;
+        unread = x.unread;
       }
 
       failed_on : {Undone : ℕ → Image → Type 0} {Way : ℕ → Type 0} (turns : List Turn) → IsUnsaid b c status ⊎ IsBrokenOff request Undone Way b c turns at new status → IsUnsaid a c status ⊎ IsBrokenOff request Undone Way a c turns old new status

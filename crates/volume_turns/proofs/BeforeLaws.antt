@@ -1,5 +1,5 @@
 -- A run whose first calls do no more than wear the disk: it goes so from where these began.
-use Rattle.std.proofs.Common.{◌≡◌, ◌⊎◌, inl, inr, ℕ, ◌≤◌, List, [], ◌∷◌, ◌++◌, take, sym, ◌∙◌, ap, subst, arith}
+use Rattle.std.proofs.Common.{◌≡◌, ◌⊎◌, inl, inr, ℕ, ◌≤◌, List, [], ◌∷◌, ◌++◌, take, refl, sym, ◌∙◌, ap, subst, arith}
 use Rattle.fsd_log.specs.Scan.{Placed}
 use Rattle.std.specs.Prelude.{Bool, false, IsSome, slice_get}
 use Rattle.std.proofs.lemmas.List.{append-nil}
@@ -120,6 +120,7 @@ module _ {S D : Type 0} (state : S → State) (has : S → Mounted → List Plac
       enough = x.enough;
       sound = x.sound;
       undone = x.undone;
+      unread = x.unread;
     }
 
     -- a run to its end
@@ -141,6 +142,7 @@ module _ {S D : Type 0} (state : S → State) (has : S → Mounted → List Plac
         };
         held = x.held;
         undone = x.undone;
+        unread = x.unread;
       }))
 
       abbrev pub finishes_before : is_worn (state v) ≡ false → (Ahead : Session → Type 0) (Last : Volume → Image → Type 0) → (Last (volume_of k) (M.now m).image → Last (volume_of k) (M.now a).image) → Finishes M request e Ahead Last before k m b status → Finishes M request e Ahead Last before k a b status
@@ -160,6 +162,7 @@ module _ {S D : Type 0} (state : S → State) (has : S → Mounted → List Plac
     enough = λ any. absurd (cc any);
     sound = λ c left. sound_more k.mounted.volume.layout k.windows k.changes (changes_in (take 1 turns)) (forced_of k) c.image (worn_held.each c left);
     undone = λ is. none_done k (forced_of k) turns (M.now m).image (stays (M.now m) worn).sound;
+    unread = λ is. (refl, none_done k (forced_of k) turns (M.now m).image (stays (M.now m) worn).sound);
   }
 
   -- by the line of a fault

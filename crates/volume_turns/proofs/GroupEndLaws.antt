@@ -93,8 +93,11 @@ slice_last : (turns : List Turn) (t : Turn) → slice_get (turns ++ t ∷ []) (l
 slice_last [] t = refl
 slice_last (u ∷ turns) t = slice_last turns t
 
--- where all is said and forced
-pub said_done : {D : Type 0} (M : Ghosts D) (k : Known) (front : List Turn) (after : Volume) (a b : D) → IsDone M k front after a b → Said M k (forced_of k) Ends.Input front a b
+-- where all is said and forced: no fault has ended it, and one of the disk stands for it, of which no more is asked
+abbrev no_fault : Fault
+no_fault = Ends.Device 0
+
+pub said_done : {D : Type 0} (M : Ghosts D) (k : Known) (front : List Turn) (after : Volume) (a b : D) → IsDone M k front after a b → Said M k (forced_of k) no_fault front a b
 said_done M k front after a b d = record {
   windows = d.windows;
   whole = length front;
@@ -115,16 +118,16 @@ module _ {D : Type 0} (M : Ghosts D) (k : Known) (front : List Turn) (line : Lin
   abbrev turns : List Turn
   turns = front ++ t ∷ []
 
-  halted : Halted M k Ends.Input turns a m
-  halted = said_halts M k Ends.Input front t [] refl a m (said_done M k front after a m d)
+  halted : Halted M k no_fault turns a m
+  halted = said_halts M k no_fault tt front t [] refl a m (said_done M k front after a m d)
 
   whole_is : halted.whole ≡ length front
   unfolding halted said_done
-  whole_is = said_halts_whole M k Ends.Input front t [] refl a m (said_done M k front after a m d)
+  whole_is = said_halts_whole M k no_fault tt front t [] refl a m (said_done M k front after a m d)
 
   forced_is : halted.forced ≡ length (k.changes ++ changes_in front)
   unfolding halted said_done
-  forced_is = said_halts_forced M k Ends.Input front t [] refl a m (said_done M k front after a m d)
+  forced_is = said_halts_forced M k no_fault tt front t [] refl a m (said_done M k front after a m d)
 
   all_changes : k.changes ++ changes_in turns ≡ k.changes ++ changes_in front
   all_changes = ap (λ (h : List Change). k.changes ++ h) (changes_snoc front t refl)
@@ -248,9 +251,9 @@ module _ {D : Type 0} (M : Ghosts D) (request : Request) (before : Report) (k : 
       by (inr u) = inr (inl u)
 
 -- a fault has ended it at once
-halted_behind : {D : Type 0} (M : Ghosts D) (k : Known) (why : Fault) (front : List Turn) (through : Bool) (more : List Turn) (a b : D) → Said M k (forced_of k) why front a b → Halted M k why (front ++ turns_behind through more) a b
-halted_behind M k why front true more a b said = said_halts M k why front forced_turn more refl a b said
-halted_behind M k why front false more a b said = said_halts M k why front blank [] refl a b said
+halted_behind : {D : Type 0} (M : Ghosts D) (k : Known) (why : Fault) (once : EndsAtOnce why) (front : List Turn) (through : Bool) (more : List Turn) (a b : D) → Said M k (forced_of k) why front a b → Halted M k why (front ++ turns_behind through more) a b
+halted_behind M k why once front true more a b said = said_halts M k why once front forced_turn more refl a b said
+halted_behind M k why once front false more a b said = said_halts M k why once front blank [] refl a b said
 
 pub finishes_broken : {D T : Type 0} (M : Ghosts D) (request : Request) (before : Report) (k : Known) (front : List Turn) (through : Bool) (more : List Turn) (a m b : D) → StopsOnly M a m (InRun k (forced_of k) (front ++ turns_behind through more) (M.now a)) → (why : Fault) → Said M k (forced_of k) why front a m
     → AreShort (M.now m).windows → EndIn (M.now a).windows k.windows → IsTimed M m → IsTimed M b → EndsAtOnce why → FaultTold {T = T} before (M.report m) (Err (Stopped why)) → (status : ℕ) → LeavesDisk M false (is_unsaid status) (Utters (fault_text why)) m b → M.honest b → EndsWith why (M.now m) (M.now b) status
@@ -258,7 +261,7 @@ pub finishes_broken : {D T : Type 0} (M : Ghosts D) (request : Request) (before 
     → ((t : ℕ) → t ≤ M.moment a → Goes (in_runs k.windows) (M.left_since b t) Last e (M.now a).said (M.now a).image (session_over (volume_of k)) mets e.commands) → Finishes M request e Ahead Last before k a b status
 finishes_broken M request before k front through more a m b moments why said short ends at_m at_b once told status says honest ended e Ahead Last mets ahead is goes =
     let turns = front ++ turns_behind through more in
-    let halted = halted_behind M k why front through more a m said in
+    let halted = halted_behind M k why once front through more a m said in
     record {
       mets = mets;
       ahead = ahead;

@@ -25,7 +25,7 @@ use Rattle.volume_turns.specs.declared.turns.Halt.TheVariants.{Fault as Stopped}
 use Rattle.volume_turns.specs.Line.{EndsWith, is_unsaid}
 use Rattle.volume_turns.specs.Turns.{EndsAtOnce, InRun, Said, SaysAll, FaultTold, Undone}
 use Rattle.volume_turns.specs.Whole.{Halted, UnderWay}
-use Rattle.volume_turns.proofs.LineLaws.{at_once_ends, next_fault}
+use Rattle.volume_turns.proofs.LineLaws.{at_once_ends, next_fault, none_of_input}
 use Rattle.volume_turns.proofs.TurnLaws.{now_held}
 
 -- ---- a text is said over what is held
@@ -69,9 +69,9 @@ changes_within [] t more none (suc n) le = absurd (omega (arith, le))
 changes_within (u ∷ turns) t more none zero le = refl
 changes_within (u ∷ turns) t more none (suc n) le = ap (λ (x : List Change). u.changes ++ x) (changes_within turns t more none n (omega (arith, le)))
 
--- turns said whole, with one more behind them that changes nothing
-pub said_halts : {D : Type 0} (M : Ghosts D) (k : Known) (why : Fault) (turns : List Turn) (t : Turn) (more : List Turn) → t.changes ≡ [] → (a b : D) → Said M k (forced_of k) why turns a b → Halted M k why (turns ++ t ∷ more) a b
-said_halts M k why turns t more none a b x =
+-- turns said whole, with one more behind them that changes nothing, where a fault ends them at once
+pub said_halts : {D : Type 0} (M : Ghosts D) (k : Known) (why : Fault) (once : EndsAtOnce why) (turns : List Turn) (t : Turn) (more : List Turn) → t.changes ≡ [] → (a b : D) → Said M k (forced_of k) why turns a b → Halted M k why (turns ++ t ∷ more) a b
+said_halts M k why once turns t more none a b x =
     let front = take_within turns (t ∷ more) x.whole x.most in
     record {
       windows = x.windows;
@@ -88,15 +88,16 @@ said_halts M k why turns t more none a b x =
         enough = subst (λ (ts : List Turn). IsTrue (list_any (λ y. y.forces) ts) → length k.changes + forced_in ts ≤ u.forced) (sym front) u.enough;
         sound = subst (λ (ts : List Turn). IsSound k.mounted.volume.layout k.windows (k.changes ++ changes_in ts) u.forced (M.now b).image) (sym front) u.sound;
       };
+      unread = λ is. absurd (none_of_input why once is);
     }
 
-pub said_halts_whole : {D : Type 0} (M : Ghosts D) (k : Known) (why : Fault) (turns : List Turn) (t : Turn) (more : List Turn) (none : t.changes ≡ []) (a b : D) (x : Said M k (forced_of k) why turns a b) → (said_halts M k why turns t more none a b x).whole ≡ x.whole
+pub said_halts_whole : {D : Type 0} (M : Ghosts D) (k : Known) (why : Fault) (once : EndsAtOnce why) (turns : List Turn) (t : Turn) (more : List Turn) (none : t.changes ≡ []) (a b : D) (x : Said M k (forced_of k) why turns a b) → (said_halts M k why once turns t more none a b x).whole ≡ x.whole
 unfolding said_halts
-said_halts_whole M k why turns t more none a b x = refl
+said_halts_whole M k why once turns t more none a b x = refl
 
-pub said_halts_forced : {D : Type 0} (M : Ghosts D) (k : Known) (why : Fault) (turns : List Turn) (t : Turn) (more : List Turn) (none : t.changes ≡ []) (a b : D) (x : Said M k (forced_of k) why turns a b) → (said_halts M k why turns t more none a b x).forced ≡ x.forced
+pub said_halts_forced : {D : Type 0} (M : Ghosts D) (k : Known) (why : Fault) (once : EndsAtOnce why) (turns : List Turn) (t : Turn) (more : List Turn) (none : t.changes ≡ []) (a b : D) (x : Said M k (forced_of k) why turns a b) → (said_halts M k why once turns t more none a b x).forced ≡ x.forced
 unfolding said_halts
-said_halts_forced M k why turns t more none a b x = refl
+said_halts_forced M k why once turns t more none a b x = refl
 
 -- ---- while a text is said there
 
@@ -156,6 +157,14 @@ module _ {D : Type 0} (M : Ghosts D) (request : Request) (before : Report) (k : 
       let rose : Rose (M.report m).output_faults (M.report b).output_faults = subst (λ (x : Bool). Counts x (M.report m).output_faults (M.report b).output_faults) (eq-eqb status 6 six) says.spares.output in
       record { ends = six; rose = omega (arith, later, rose) }
 
+  undone_worn : SaysAll (fault_text why) (M.now m) (M.now b) → Undone k (forced_of k) turns halted.whole (M.now m).image → Undone k (forced_of k) turns halted.whole (M.now b).image
+  undone_worn all u = record {
+    forced = u.forced;
+    least = u.least;
+    enough = u.enough;
+    sound = sound_worn M k turns a m halted short ends (k.changes ++ changes_in (take halted.whole turns)) u.forced (M.now b).image u.sound all.ages.image;
+  }
+
   broken : status ≡ fault_status why → SaysAll (fault_text why) (M.now m) (M.now b) → IsBrokenOff request (Undone k (forced_of k) turns) (UnderWay M k turns b) before (M.report b) turns (M.now a) (M.now b) status
   broken gives all = record {
     why = why;
@@ -173,12 +182,8 @@ module _ {D : Type 0} (M : Ghosts D) (request : Request) (before : Report) (k : 
       sound = held_behind M m b (fault_text why) (λ i. IsSound k.mounted.volume.layout k.windows (k.changes ++ changes_in (take (suc halted.whole) turns)) halted.forced i) at_m at_b (says.since honest) (says.any_moment honest) halted.sound
           (λ i sound worn. sound_worn M k turns a m halted short ends (k.changes ++ changes_in (take (suc halted.whole) turns)) halted.forced i sound worn);
     };
-    undone = λ is. let u = halted.undone is in record {
-      forced = u.forced;
-      least = u.least;
-      enough = u.enough;
-      sound = sound_worn M k turns a m halted short ends (k.changes ++ changes_in (take halted.whole turns)) u.forced (M.now b).image u.sound all.ages.image;
-    };
+    undone = λ is. undone_worn all (halted.undone is);
+    unread = λ is. ((halted.unread is).0, undone_worn all (halted.unread is).1);
   }
 
   by_end : EndsWith why (M.now m) (M.now b) status → IsUnsaid before (M.report b) status ⊎ IsBrokenOff request (Undone k (forced_of k) turns) (UnderWay M k turns b) before (M.report b) turns (M.now a) (M.now b) status

@@ -65,7 +65,7 @@ outside_put name keep c before after Ends.Memory o = tt
 outside_put name keep c before after why o = absurd o
 
 broken_put : (name : List ℕ) (keep : Option ℕ) (c : Command) (before after : Report) {Over : ℕ → Image → Type 0} {Way : ℕ → Type 0} {turns : List Turn} {old new : Moment} {result : ℕ} → IsBrokenOff (One c) Over Way before after turns old new result → IsBrokenOff (Put name keep) Over Way before after turns old new result
-broken_put name keep c before after x = record { why = x.why; outside = outside_put name keep c before after x.why x.outside; ends = x.ends; says = x.says; held = x.held; undone = x.undone }
+broken_put name keep c before after x = record { why = x.why; outside = outside_put name keep c before after x.why x.outside; ends = x.ends; says = x.says; held = x.held; undone = x.undone; unread = x.unread }
 
 module _ {D : Type 0} (M : Ghosts D) (name : List ℕ) (keep : Option ℕ) (input rest : List ℕ) (few : length input ≤ max_input) (before : Report) (k : Known) (a b : D) (status : ℕ) where
   abbrev c : Command
@@ -180,7 +180,7 @@ module _ {S D : Type 0} (state : S → State) (has : S → Mounted → List Plac
   pub refused_broken : (place : ℕ) → FaultTold {T = Unit {0}} (M.report a) (M.report m) (Err (Stopped (Ends.Device place))) → LeavesDisk M false (is_unsaid status) (Utters (fault_text (Ends.Device place))) m b → EndsWith (Ends.Device place) (M.now m) (M.now b) status → Over
   refused_broken place told says ended =
       let why = Ends.Device place in
-      let halted = said_halts M k why [] t [] refl a m (said_nothing M k (forced_of k) why a m at_m held worn.windows worn.said) in
+      let halted = said_halts M k why tt [] t [] refl a m (said_nothing M k (forced_of k) why a m at_m held worn.windows worn.said) in
       record {
         cut = None;
         may = tt;

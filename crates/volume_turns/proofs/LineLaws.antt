@@ -41,6 +41,10 @@ at_once_ends (Ends.Device s) once = tt
 at_once_ends Ends.Memory once = tt
 at_once_ends why once = absurd once
 
+-- it is none of the input
+pub none_of_input : (why : Fault) → EndsAtOnce why → why ≡ Ends.Input → ⊥
+none_of_input why once is = subst EndsAtOnce is once
+
 pub excused : (i : Image) (fault : MountFault) → ExcusesOf i fault → MayEnd (end_by_mount fault)
 excused i (Refused.Device s) why = tt
 excused i Refused.Memory why = tt

@@ -21,7 +21,7 @@ use Rattle.fsd_texts.specs.Text.{text}
 use Rattle.fsd_dumps.specs.Dump.{Dumped}
 use Rattle.fsd_dumps.specs.Front.{ItemsRead}
 use Rattle.fsd_runs.specs.Dumps.{first_there}
-use Rattle.fsd_runs.specs.Errands.{Errand, blank, cut_off, load_of, restore_of, restored_unless, restoring_none, restoring_unless}
+use Rattle.fsd_runs.specs.Errands.{Errand, blank, cut_off, load_of, restore_of, restored_unless, refusing, restoring_unless}
 use Rattle.fsd_runs.specs.Runs.{turns_of}
 use Rattle.fsd_runs.specs.Sessions.{session_over}
 use Rattle.client_desk.specs.Clients.{no_desk}
@@ -115,7 +115,7 @@ module _ {S D : Type 0} (state : S → State) (has : S → Mounted → List Plac
 -- nothing is made again, and it is said why
 pub closes_none : {S D : Type 0} (state : S → State) (has : S → Mounted → List Placed → Type 0) (M : Ghosts D) (wears : (s : S) (k : Known) (old new : Moment) → AreShort old.windows → Ages old new → Stands state has s k old → Stands state has s k new)
     (timed : (x : D) → M.honest x → IsTimed M x) (short : (x : D) → M.honest x → AreShort (M.now x).windows) (line : Line) (v : S) (a b : D) (result : Result ℕ Halt) → EndsSaying M state has (text line) 1 v a b result → M.honest b → (k : Known) → k.opened ≡ none_open → Stands state has v k (M.now a) → OnDisk M k (forced_of k) a
-    → IsRestored M (restoring_none line) k a b result
+    → IsRestored M (refusing line) k a b result
 closes_none state has M wears timed short line v a b result says honest k none stands disk =
     let first = says.calls.speaks.trust.honest honest in
     let ages : Ages (M.now a) (M.now a) = record { image = worn_refl (open_damage (M.now a).windows) (M.now a).image; windows = refl } in

@@ -31,7 +31,7 @@ use Rattle.volume_turns.specs.Turns.{FaultTold}
 use Rattle.volume_turns.specs.Whole.{Halted, RunsOut}
 use Rattle.volume_turns.proofs.GroupLaws.{goes_wider}
 use Rattle.volume_turns.proofs.HaltLaws.{broken_ends, broken_moments}
-use Rattle.volume_turns.proofs.LineLaws.{alone_length, at_once_ends}
+use Rattle.volume_turns.proofs.LineLaws.{alone_length, at_once_ends, none_of_input}
 use Rattle.volume_turns.proofs.TurnLaws.{none_done}
 
 first_of : (turns : List Turn) → length turns ≡ 1 → IsSome (slice_get turns 0)
@@ -56,6 +56,7 @@ halted_one M c k mets why a b windows u =
       enough = λ any. absurd (cc any);
       sound = u.held;
       undone = λ is. none_done k (forced_of k) turns (M.now b).image (u.spared is);
+      unread = λ is. absurd (none_of_input why u.once is);
     }
 
 -- ---- its roots

@@ -16,8 +16,9 @@ use Rattle.fsd_runs.specs.Errands.{Turn}
 use Rattle.fsd_runs.specs.Leaves.{BeginsOnly, SaysNext}
 use Rattle.fsd_runs.specs.Runs.{changes_in, forced_in, said_in}
 use Rattle.volume_contract.specs.State.{Known, forced_of, volume_of}
-use Rattle.volume_turns.specs.Turns.{InRun}
+use Rattle.volume_turns.specs.Turns.{EndsAtOnce, InRun}
 use Rattle.volume_turns.specs.Whole.{Halted}
+use Rattle.volume_turns.proofs.LineLaws.{none_of_input}
 use Rattle.volume_turns.proofs.TurnLaws.{forced_most, now_held}
 
 abbrev pub IsPlain : Turn → Type 0
@@ -109,10 +110,10 @@ module _ (k : Known) (none : (volume_of k).unforced ≡ 0) (turns : List Turn) (
         sound = sound_at (suc s.whole) left.image sound;
       }
 
-  -- between two of them
-  pub plain_halts : {D : Type 0} (M : Ghosts D) (why : Fault) (a b : D) → IsTimed M b → (M.now b).windows ≡ (M.now a).windows → (whole : ℕ) → IsSome (slice_get turns whole) → (M.now b).said ≡ (M.now a).said ++ said_in (take whole turns)
+  -- between two of them, where a fault ends them at once
+  pub plain_halts : {D : Type 0} (M : Ghosts D) (why : Fault) (once : EndsAtOnce why) (a b : D) → IsTimed M b → (M.now b).windows ≡ (M.now a).windows → (whole : ℕ) → IsSome (slice_get turns whole) → (M.now b).said ≡ (M.now a).said ++ said_in (take whole turns)
       → IsHeld M b (λ c. IsSound k.mounted.volume.layout k.windows k.changes (forced_of k) c.image) → Halted M k why turns a b
-  plain_halts M why a b timed windows whole more said held = record {
+  plain_halts M why once a b timed windows whole more said held = record {
     windows = windows;
     whole = whole;
     more = more;
@@ -127,6 +128,7 @@ module _ (k : Known) (none : (volume_of k).unforced ≡ 0) (turns : List Turn) (
       enough = λ any. enough whole;
       sound = sound_at whole (M.now b).image (now_held M b (λ c. IsSound k.mounted.volume.layout k.windows k.changes (forced_of k) c.image) timed held);
     };
+    unread = λ is. absurd (none_of_input why once is);
   }
 
   -- with all of them said

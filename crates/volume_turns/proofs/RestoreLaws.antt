@@ -18,7 +18,7 @@ use Rattle.fsd_texts.specs.declared.line.Line.TheVariants as Says
 use Rattle.fsd_texts.specs.declared.script_command.ScriptCommand.{ScriptCommand}
 use Rattle.fsd_texts.specs.Text.{text}
 use Rattle.fsd_dumps.specs.Dump.{Dumped}
-use Rattle.fsd_runs.specs.Errands.{Answered, Ending, Errand, Turn, blank, first_refusal, forced_line, load_of, restored_unless, restoring, restoring_none}
+use Rattle.fsd_runs.specs.Errands.{Answered, Ending, Errand, Turn, blank, first_refusal, forced_line, load_of, restored_unless, restoring, refusing}
 use Rattle.fsd_runs.specs.Runs.{Goes, RefusesLast, answered, session_behind, turns_begun, turns_of}
 use Rattle.fsd_runs.specs.Sessions.{Meeting, session_over}
 use Rattle.client_desk.specs.Clients.{no_desk}
@@ -34,7 +34,7 @@ use Rattle.volume_turns.specs.Once.{Anything, ClosesAndSays, EndsClosed, IsDone,
 use Rattle.volume_turns.specs.Restore.{EndsErrand, IsEnded, IsRestored}
 use Rattle.volume_turns.specs.Seats.{Seated, SitsAt, known_of, seated}
 use Rattle.volume_turns.specs.Steps.{IsToldOn}
-use Rattle.volume_turns.specs.Turns.{Behind, EndsBy, InRun, IsEndOn, OnDisk, RunsFrom, Said}
+use Rattle.volume_turns.specs.Turns.{Behind, EndsAtOnce, EndsBy, InRun, IsEndOn, OnDisk, RunsFrom, Said}
 use Rattle.volume_turns.specs.Whole.{Halted}
 use Rattle.volume_turns.proofs.GroupEndLaws.{ended_as, goes_length}
 use Rattle.volume_turns.proofs.GroupLaws.{closing_done, closing_moments, closing_unsaid, goes_wider}
@@ -102,7 +102,7 @@ module _ (commands : List ScriptCommand) (ends : List Answered → Ending) (line
       }
       ends_by (Err (Stopped why)) is c = (
         c.0,
-        subst (λ (ts : List Turn). Halted M k why ts a b) (sym turns_is) (said_halts M k why front t [] refl a b (closing_unsaid state has M silent k (M.now a) commands a m b w since at_m timed (Ok tt) ran ran.ends.1 (text line) why c.1)),
+        subst (λ (ts : List Turn). Halted M k why ts a b) (sym turns_is) (said_halts M k why c.0 front t [] refl a b (closing_unsaid state has M silent k (M.now a) commands a m b w since at_m timed (Ok tt) ran ran.ends.1 (text line) why c.1)),
       )
       ends_by (Err Output) is c = tt
 
@@ -120,15 +120,15 @@ module _ (commands : List ScriptCommand) (ends : List Answered → Ending) (line
 
     -- a fault has ended them
     module _ (end : Halt) (other : end ≡ Stopped Ends.WornOut → ⊥) (ran : RunsFrom state has M silent (seated k no_clients) (forced_of k) (M.now a) commands a m w (Err end)) where
-      halted_by : (why : Fault) → Said M k (forced_of k) why (turns_begun silent ran.mets s commands) a m → (through : Bool) → through ≡ (length (done (Err end) ran) == length commands) → Halted M k why (turns_of e ran.mets s) a m
-      halted_by why x true is = subst (λ (ts : List Turn). Halted M k why ts a m) (sym (turns_are (Err end) ran true is ∙ ap (λ (ts : List Turn). turns_begun silent ran.mets s commands ++ ts) (closes (done (Err end) ran))))
-          (said_halts M k why (turns_begun silent ran.mets s commands) (closing_turn (text (line_of (done (Err end) ran)))) [] refl a m x)
-      halted_by why x false is = subst (λ (ts : List Turn). Halted M k why ts a m) (sym (turns_are (Err end) ran false is)) (said_halts M k why (turns_begun silent ran.mets s commands) blank [] refl a m x)
+      halted_by : (why : Fault) → EndsAtOnce why → Said M k (forced_of k) why (turns_begun silent ran.mets s commands) a m → (through : Bool) → through ≡ (length (done (Err end) ran) == length commands) → Halted M k why (turns_of e ran.mets s) a m
+      halted_by why once x true is = subst (λ (ts : List Turn). Halted M k why ts a m) (sym (turns_are (Err end) ran true is ∙ ap (λ (ts : List Turn). turns_begun silent ran.mets s commands ++ ts) (closes (done (Err end) ran))))
+          (said_halts M k why once (turns_begun silent ran.mets s commands) (closing_turn (text (line_of (done (Err end) ran)))) [] refl a m x)
+      halted_by why once x false is = subst (λ (ts : List Turn). Halted M k why ts a m) (sym (turns_are (Err end) ran false is)) (said_halts M k why once (turns_begun silent ran.mets s commands) blank [] refl a m x)
 
       stops_by : (h : Halt) → (h ≡ Stopped Ends.WornOut → ⊥) → EndsBy state has M silent (seated k no_clients) (forced_of k) ran.mets commands w a m (Err h) → EndsErrand M e k ran.mets a m (Err h)
       stops_by (Stopped Ends.WornOut) never x = absurd (never refl)
       stops_by Output never x = tt
-      stops_by (Stopped why) never x = (x.0, halted_by why x.1 (length (done (Err end) ran) == length commands) refl)
+      stops_by (Stopped why) never x = (x.0, halted_by why x.0 x.1 (length (done (Err end) ran) == length commands) refl)
 
       pub ended_stop : IsEnded M e k a m (Err end)
       ended_stop = record {
@@ -204,7 +204,7 @@ module _ {S D : Type 0} (state : S → State) (has : S → Mounted → List Plac
         }
 
     -- none is begun, and the line says why
-    pub restored_none : (line : Line) → RunsFrom state has M silent (seated k no_clients) (forced_of k) (M.now a) [] a m (w, no_desk) (Ok tt) → IfOk result (λ status. status ≡ 1) → Closing line → IsRestored M (restoring_none line) k a b result
+    pub restored_none : (line : Line) → RunsFrom state has M silent (seated k no_clients) (forced_of k) (M.now a) [] a m (w, no_desk) (Ok tt) → IfOk result (λ status. status ≡ 1) → Closing line → IsRestored M (refusing line) k a b result
     restored_none line ran same says = record {
       refused = None;
       ended = ended_last [] (λ done. forced_line line 1) (λ done. line) (λ done. refl) state has M k a m (w, no_desk) later ran b since timed line 1 refl refl result same says;

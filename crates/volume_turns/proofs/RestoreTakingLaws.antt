@@ -58,7 +58,7 @@ module _ {D : Type 0} (M : Ghosts D) (name : List ℕ) (keep : Option ℕ) (inpu
   over : {A B : Type 0} {Over : ℕ → Image → Type 0} {Way : ℕ → Type 0} {turns : List Turn} {old new : Moment} → A ⊎ (B ⊎ IsBrokenOff (Put name keep) Over Way before (M.report b) turns old new status) → A ⊎ (B ⊎ IsBrokenOff Restore Over Way before (M.report b) turns old new status)
   over (inl x) = inl x
   over (inr (inl u)) = inr (inl u)
-  over (inr (inr x)) = inr (inr (record { why = x.why; outside = outside_restore name keep before (M.report b) x.why x.outside; ends = x.ends; says = x.says; held = x.held; undone = x.undone }))
+  over (inr (inr x)) = inr (inr (record { why = x.why; outside = outside_restore name keep before (M.report b) x.why x.outside; ends = x.ends; says = x.says; held = x.held; undone = x.undone; unread = x.unread }))
 
   as_restore : Finishes M (Put name keep) none Always (IsCutAt None) before k a b status → Finishes M Restore none Always (IsCutAt None) before k a b status
   as_restore f = record { mets = f.mets; ahead = tt; goes = f.goes; moments = f.moments; ends = over f.ends }

@@ -54,7 +54,7 @@ outside_in a p b Ends.Memory o = tt
 outside_in a p b why o = absurd o
 
 broken_in : (a p b : Report) {Over : ℕ → Image → Type 0} {Way : ℕ → Type 0} {turns : List Turn} {old new : Moment} {status : ℕ} → IsBrokenOff Script Over Way (but_input a p) b turns old new status → IsBrokenOff Script Over Way a b turns old new status
-broken_in a p b x = record { why = x.why; outside = outside_in a p b x.why x.outside; ends = x.ends; says = x.says; held = x.held; undone = x.undone }
+broken_in a p b x = record { why = x.why; outside = outside_in a p b x.why x.outside; ends = x.ends; says = x.says; held = x.held; undone = x.undone; unread = x.unread }
 
 pub finishes_in : {D : Type 0} (M : Ghosts D) (e : Errand) (Ahead : Session → Type 0) (Last : Volume → Image → Type 0) (x p : Report) (k : Known) (a b : D) (status : ℕ) → Finishes M Script e Ahead Last (but_input x p) k a b status → Finishes M Script e Ahead Last x k a b status
 finishes_in M e Ahead Last x p k a b status f = record { mets = f.mets; ahead = f.ahead; goes = f.goes; moments = f.moments; ends = ended f.ends }

@@ -64,6 +64,7 @@ broken_on_said a b request Over Now Way To turns old mid new status quiet on hel
   };
   held = held x.says.whole x.held;
   undone = λ is. on x.says.whole new.image (x.undone is);
+  unread = λ is. ((x.unread is).0, on x.says.whole new.image (x.unread is).1);
 }
 
 one_so : (request : Request) {P : Type 0} → P → IfOne request P
@@ -84,7 +85,7 @@ module _ (a m b : Report) (uses : UsesDisk a m) (faults : DiskFaults None a m) w
   outside_on request why o = absurd o
 
   pub broken_on : (request : Request) {Over : ℕ → Image → Type 0} {Way : ℕ → Type 0} {turns : List Turn} {old new : Moment} {status : ℕ} → IsBrokenOff request Over Way m b turns old new status → IsBrokenOff request Over Way a b turns old new status
-  broken_on request x = record { why = x.why; outside = outside_on request x.why x.outside; ends = x.ends; says = x.says; held = x.held; undone = x.undone }
+  broken_on request x = record { why = x.why; outside = outside_on request x.why x.outside; ends = x.ends; says = x.says; held = x.held; undone = x.undone; unread = x.unread }
 
   pub cause_on : (cut : Cut) (input rest : List ℕ) → CutCause cut input rest m b → CutCause cut input rest a b
   cause_on None input rest cause = tt
@@ -309,6 +310,7 @@ module _ {S D : Type 0} (state : S → State) (has : S → Mounted → List Plac
     says = record { whole = 0; more = refl; said = all.said ∙ ap (λ (x : List ℕ). x ++ fault_text why) quiet };
     held = tt;
     undone = λ is. refl;
+    unread = λ is. (refl, refl);
   }
 
   -- before it settled
@@ -399,6 +401,7 @@ module _ {S D : Type 0} (state : S → State) (has : S → Mounted → List Plac
       enough = λ any. absurd (cc any);
       sound = λ c left. sound_more k.mounted.volume.layout k.windows k.changes (changes_in (take 1 all_turns)) (forced_of k) c.image (disk.each c left);
       undone = λ is. none_done k (forced_of k) all_turns (M.now m).image sound;
+      unread = λ is. (refl, none_done k (forced_of k) all_turns (M.now m).image sound);
     }
 
     ends_k : EndIn (M.now m).windows k.windows
