@@ -1,6 +1,6 @@
 -- What a dump over a mounted volume leaves, behind the sync in front of it.
 use Rattle.std.proofs.Common.{◌≡◌, ℕ, zero, suc, ◌<◌, Bool, List, [], ◌∷◌, ◌++◌, length, take, drop, Option, Some, None, refl, sym, ◌∙◌, ap, arith, append_assoc}
-use Rattle.std.specs.Prelude.{slice_get}
+use Rattle.std.specs.Prelude.{Result, Ok, Err, slice_get}
 use Rattle.std.specs.List.{AllByRecursion, concat}
 use Rattle.std.proofs.Math.Seq.{take-append_seam}
 use Rattle.std.proofs.lemmas.List.{append_cancel_left, take-append-drop}
@@ -16,6 +16,7 @@ use Rattle.fsd_bytes.specs.declared.key.Serial.{Serial}
 use Rattle.fsd_files.specs.Disk.{Image}
 use Rattle.fsd_files.specs.Kept.{IsWhole}
 use Rattle.fsd_files.specs.Scrub.{Picks}
+use Rattle.fsd_files.specs.Volume.{Volume}
 use Rattle.fsd_files.proofs.ScrubLaws.{picks_longer}
 use Rattle.fsd_log.specs.Scan.{Placed}
 use Rattle.fsd_sound.specs.Laid.{HasOwnRoots}
@@ -26,9 +27,11 @@ use Rattle.fsd_texts.specs.declared.fault.Fault.{Fault}
 use Rattle.fsd_texts.specs.declared.fault.Fault.TheVariants as Ends
 use Rattle.fsd_texts.specs.Text.{fault_text}
 use Rattle.fsd_runs.specs.declared.request.Request.TheVariants.{Dump}
-use Rattle.fsd_runs.specs.Dumps.{dump_of}
+use Rattle.fsd_runs.specs.declared.span.Span.{Span}
+use Rattle.fsd_runs.specs.Dumps.{dump_of, span_of}
 use Rattle.fsd_runs.specs.Errands.{Turn}
-use Rattle.fsd_runs.specs.Runs.{said_in}
+use Rattle.fsd_runs.specs.Leaves.{SaysFault}
+use Rattle.fsd_runs.specs.Runs.{IsDumpedSo, said_in}
 use Rattle.volume_contract.specs.State.{State, Ages, Known, Stands, forced_of, volume_of}
 use Rattle.scrub.proofs.LookLaws.{Any, anything}
 use Rattle.volume_turns.specs.Once.{IsDone}
@@ -79,11 +82,16 @@ not_head zero why whole first is = let none : None ≡ Some 67 = ap first_byte i
 not_head (suc n) why whole first is =
     absurd (apart 102 67 (omega arith) (sym (first_taken n (fault_text why) 102 (fault_first why)) ∙ (ap first_byte is ∙ first)))
 
-pub dump_unsaid : (since : Serial) → GoesUnsaid (Dump since most)
-dump_unsaid since Passed base v i only c more passed said =
+-- whatever the span that is asked for
+pub unsaid_as : (asked : Result Span ℕ) (Passed : Moment → Type 0) (base : List ℕ) (v : Volume) (i : Image) → ((c : Moment) → Passed c → (part : List ℕ) × SaysFault part × (c.said ≡ base ++ part)) → IsDumpedSo asked None Passed base v i
+unsaid_as (Ok span) Passed base v i only = λ c more passed said.
     let part = only c passed in
     let fault = part.1 in
-    absurd (not_head fault.1 fault.0 (concat (take 1 (dump_of since v)) ++ more) refl (sym fault.3 ∙ append_cancel_left base part.0 (concat (take 1 (dump_of since v)) ++ more) (sym part.2 ∙ said)))
+    absurd (not_head fault.1 fault.0 (concat (take 1 (dump_of span v)) ++ more) refl (sym fault.3 ∙ append_cancel_left base part.0 (concat (take 1 (dump_of span v)) ++ more) (sym part.2 ∙ said)))
+unsaid_as (Err need) Passed base v i only = tt
+
+pub dump_unsaid : (since : Serial) (most : Option ℕ) → GoesUnsaid (Dump since most)
+dump_unsaid since most Passed base v i only = unsaid_as (span_of since most v.entries) Passed base v i only
 
 begun : (bytes rest : List ℕ) (heard : ℕ) → take (length (take heard bytes)) (bytes ++ rest) ≡ take heard bytes
 begun bytes rest heard =
@@ -91,6 +99,10 @@ begun bytes rest heard =
     ∙ take-append_seam (take heard bytes) (drop heard bytes ++ rest)
 
 -- ---- the sync in front of it
+
+-- both roots are those of the layout
+abbrev pub Rooted : Known → Moment → Type 0
+Rooted k c = HasOwnRoots k.mounted.volume.layout (weak_of k.windows) c.image
 
 module _ {S D : Type 0} (state : S → State) (has : S → Mounted → List Placed → Type 0) (M : Ghosts D) (k : Known) (v : S) (a m : D)
     (wears : (old new : Moment) → AreShort old.windows → Ages old new → Stands state has v k old → Stands state has v k new) (stands : Stands state has v k (M.now a)) (on : OnDisk M k (forced_of k) a) (short : (x : D) → M.honest x → AreShort (M.now x).windows) (timed : (x : D) → M.honest x → IsTimed M x)
@@ -132,7 +144,15 @@ module _ {S D : Type 0} (state : S → State) (has : S → Mounted → List Plac
 
   -- ---- what is said behind it
 
-  module _ (none : (volume_of k).unforced ≡ 0) (synced : IsSynced (M.now m)) (b : D) (honest : M.honest b) (since : Since M m b) (bytes : List ℕ) (run : LeavesOnly M.moment M.left_since m b (Utters bytes (M.now m))) where
+  -- behind a sync the roots are those of the layout
+  pub rooted_synced : IsSynced (M.now m) → IsHeld M m (Rooted k)
+  rooted_synced synced = held_synced M m (Rooted k) at_m synced stands_synced.disk.over.own.roots
+
+  module _ (roots : IsHeld M m (Rooted k)) (b : D) (honest : M.honest b) (since : Since M m b) (bytes : List ℕ) (run : LeavesOnly M.moment M.left_since m b (Utters bytes (M.now m))) where
+    pub rooted_said : IsHeld M b (Rooted k)
+    rooted_said = held_behind M m b bytes (λ i. HasOwnRoots k.mounted.volume.layout (weak_of k.windows) i) at_m (timed b honest) since run roots (λ i own w. (aged_to i w).over.own.roots)
+
+  module _ (none : (volume_of k).unforced ≡ 0) (roots : IsHeld M m (Rooted k)) (b : D) (honest : M.honest b) (since : Since M m b) (bytes : List ℕ) (run : LeavesOnly M.moment M.left_since m b (Utters bytes (M.now m))) where
     at_b : IsTimed M b
     at_b = timed b honest
 
@@ -148,9 +168,6 @@ module _ {S D : Type 0} (state : S → State) (has : S → Mounted → List Plac
     pub plain_stops : (turns : List Turn) → ArePlain turns → (rest : List ℕ) → said_in turns ≡ bytes ++ rest → StopsOnly M a b (InRun k (forced_of k) turns (M.now a))
     plain_stops turns plain rest is = then_on M.moment (stops M) a m b (InRun k (forced_of k) turns (M.now a)) (first_stops turns) (said_stops turns plain rest is)
 
-    rooted : IsHeld M b (λ c. HasOwnRoots k.mounted.volume.layout (weak_of k.windows) c.image)
-    rooted = held_behind M m b bytes (λ i. HasOwnRoots k.mounted.volume.layout (weak_of k.windows) i) at_m at_b since run (held_synced M m (λ c. HasOwnRoots k.mounted.volume.layout (weak_of k.windows) c.image) at_m synced stands_synced.disk.over.own.roots) (λ i roots w. (aged_to i w).over.own.roots)
-
     -- all of them are said
     pub plain_done : (turns : List Turn) → ArePlain turns → said_in turns ≡ bytes → SaysAll bytes (M.now m) (M.now b) → IsDone M k turns (volume_of k) a b
     plain_done turns plain is all =
@@ -163,5 +180,5 @@ module _ {S D : Type 0} (state : S → State) (has : S → Mounted → List Plac
           tells = mounted_tells k.mounted k.windows k.changes (forced_of k) (M.now b).image there none;
           lasts = mounted_lasts k.mounted k.windows k.changes (forced_of k) (M.now b).image there none;
           roots = there.over.own.roots;
-          rooted = rooted;
+          rooted = rooted_said roots b honest since bytes run;
         }

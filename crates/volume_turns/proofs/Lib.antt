@@ -11,7 +11,9 @@ pub mod CallWornLaws
 pub mod CauseLaws
 pub mod CountLaws
 pub mod DidLaws
+pub mod DumpAskedLaws
 pub mod DumpEndLaws
+pub mod DumpFoundLaws
 pub mod DumpLaws
 pub mod DumpRunLaws
 pub mod DumpedLaws

@@ -5,7 +5,7 @@ ghost use Rattle.fsd_texts.specs.Text.{text};
 ghost use Rattle.scrub.specs.Telling.{StandTwice};
 ghost use Rattle.volume_contract.specs.State.{Known, Stands, forced_of, none_open, volume_of};
 ghost use Rattle.volume_turns.specs.Causes.{Parts, TellsImage};
-ghost use Rattle.volume_turns.specs.Dumping.{DumpsAndEnds, SaysAtEnd, damages_text, refusal_line, refusal_status};
+ghost use Rattle.volume_turns.specs.Dumping.{DumpsAndEnds, DumpsAsked, FindsSpan, SaysAtEnd, damages_text, refusal_line, refusal_status};
 ghost use Rattle.volume_turns.specs.Running.{EndsMounted, EndsRun, LeavesOver, TakesNothing, TellsMounted};
 ghost use Rattle.volume_turns.specs.Status.{IsDumpStatus};
 ghost use Rattle.volume_turns.specs.Steps.{ended_by};
@@ -16,11 +16,12 @@ use crate::answer::ended_by;
 use crate::line::{end_with, last_line};
 use crate::once::fault_of;
 use fsd_bytes::{Key, Refusal, Serial};
+use fsd_runs::Span;
 use fsd_texts::{Fault, Line};
 use sector_disk::Machine;
 use std::alloc::Global;
 use volume_contract::Files;
-use volume_dump::{DumpFault, dump};
+use volume_dump::{DumpFault, dump, span_in};
 
 // Says each damaged sector by a line.
 fn say_found<M: Machine>(m: &mut M, found: &[(Key, u32)]) -> u8
@@ -48,13 +49,13 @@ fn end_refused<M: Machine>(m: &mut M, why: Refusal) -> u8
     }
 }
 
-// Says a dump, and what stands behind it.
-fn dump_and_end<M: Machine, V: Files<M> + Drop>(alloc: Global, v: V, m: &mut M, since: Serial) -> u8
+// Says a dump of a span, and what stands behind it.
+fn dump_and_end<M: Machine, V: Files<M> + Drop>(alloc: Global, v: V, m: &mut M, span: Span) -> u8
     requires room { (V.state v).layout.sectors ≤ (M.report m.old).sectors }
-    ensures { DumpsAndEnds V.state V.holds M.Machine since v m.old m.new result }
+    ensures { DumpsAndEnds V.state V.holds M.Machine span v m.old m.new result }
 {
     let mut v = v;
-    match dump(alloc, &mut v, m, since) {
+    match dump(alloc, &mut v, m, span) {
         Ok(_) => 0,
         Err(DumpFault::Cut(_)) => 8,
         Err(DumpFault::Output) => 6,
@@ -64,9 +65,55 @@ fn dump_and_end<M: Machine, V: Files<M> + Drop>(alloc: Global, v: V, m: &mut M, 
     }
 }
 
-// Says a dump over a volume that was just mounted, to the last line. What the mount wrote is brought to the disk first,
-// and nothing is written behind that.
-fn dump_on<M: Machine, V: Files<M> + Drop>(alloc: Global, v: V, m: &mut M, since: Serial) -> u8
+// The span that is asked for: all behind a serial, or as far as so many bytes go.
+fn span_for<M: Machine, V: Files<M>>(
+    alloc: Global,
+    v: &mut V,
+    m: &mut M,
+    since: Serial,
+    most: Option<u32>,
+) -> Result<Span, Refusal>
+    requires room { (V.state v.old).layout.sectors ≤ (M.report m.old).sectors }
+    requires up { (V.state v.old).down ≡ None }
+    ensures { FindsSpan V.state V.holds M.Machine since most v.old v.new m.old m.new result }
+{
+    match most {
+        None => Ok(Span {
+            since,
+            before: None,
+        }),
+        Some(most) => span_in(alloc, v, m, since, most),
+    }
+}
+
+// Says the dump that is asked for, or why there is none.
+fn dump_asked<M: Machine, V: Files<M> + Drop>(
+    alloc: Global,
+    v: V,
+    m: &mut M,
+    since: Serial,
+    most: Option<u32>,
+) -> u8
+    requires room { (V.state v).layout.sectors ≤ (M.report m.old).sectors }
+    requires up { (V.state v).down ≡ None }
+    ensures { DumpsAsked V.state V.holds M.Machine since most v m.old m.new result }
+{
+    let mut v = v;
+    match span_for(alloc, &mut v, m, since, most) {
+        Ok(span) => dump_and_end(alloc, v, m, span),
+        Err(why) => end_refused(m, why),
+    }
+}
+
+// Says it over a volume that was just mounted, to the last line. What the mount wrote is brought to the disk first, and
+// nothing is written behind that.
+fn dump_on<M: Machine, V: Files<M> + Drop>(
+    alloc: Global,
+    v: V,
+    m: &mut M,
+    since: Serial,
+    most: Option<u32>,
+) -> u8
     requires room { (V.state v).layout.sectors ≤ (M.report m.old).sectors }
     requires up { (V.state v).down ≡ None }
     ensures ends { EndsMounted M.Machine IsDumpStatus m.old m.new result }
@@ -75,7 +122,7 @@ fn dump_on<M: Machine, V: Files<M> + Drop>(alloc: Global, v: V, m: &mut M, since
     ensures runs { M.honest m.new → (input rest : List ℕ) (k : Known) → (volume_of k).unforced ≡ 0 → Stands V.state V.holds v k (M.now m.old) → OnDisk M.Machine k (forced_of k) m.old → RunsOut M.Machine (Dump since most) input rest (M.report m.old) k m.old m.new result }
 {
     match m.sync() {
-        Ok(()) => dump_and_end(alloc, v, m, since),
+        Ok(()) => dump_asked(alloc, v, m, since, most),
         Err(failed) => end_with(m, Fault::Device(failed.place)),
     }
 }

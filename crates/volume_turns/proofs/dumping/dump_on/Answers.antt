@@ -1,16 +1,16 @@
-use Rattle.std.proofs.Common.{◌++◌, inr, ℕ, List, take, ◌∙◌, ap, arith}
-use Rattle.sector_disk.specs.Machine.{UsesDisk, synced_once}
+use Rattle.std.proofs.Common.{inr, ◌∙◌, refl, arith}
+use Rattle.sector_disk.specs.Machine.{UsesDisk}
 use Rattle.sector_disk.proofs.Holding.{trusts_on}
 use Rattle.fsd_texts.specs.declared.fault.Fault.TheVariants as Ends
-use Rattle.volume_dump.specs.Dump.{LeavesDumped}
-use Rattle.volume_turns.proofs.DumpEndLaws.{end_counts, end_last, end_says, end_status, end_unspent, ends_of, keeps_end}
-use Rattle.volume_turns.proofs.DumpLaws.{stands_synced}
-use Rattle.volume_turns.proofs.DumpRunLaws.{dump_out, unsynced_out}
+use Rattle.fsd_runs.specs.Dumps.{span_of}
+use Rattle.volume_contract.specs.State.{volume_of}
+use Rattle.volume_turns.proofs.DumpAskedLaws.{runs_dumped, unbegun_out}
+use Rattle.volume_turns.proofs.DumpFoundLaws.{asked_out, from_asked, from_ends, from_takes, from_tells}
 use Rattle.volume_turns.proofs.LastLaws.{ends_fault, told_place}
 use Rattle.volume_turns.proofs.RunLaws.{since_on}
 use Rattle.volume_turns.proofs.SayLaws.{KeepsSynced, synced_keeps, timed_by, told_synced, told_unsynced}
 use Rattle.volume_turns.proofs.StatusLaws.{fault_counts, fault_ends, not_as}
-use Rattle.volume_turns.proofs.SyncLaws.{none_up_to, one_up_to, syncs_on}
+use Rattle.volume_turns.proofs.SyncLaws.{none_up_to, syncs_on}
 use Rattle.volume_turns.proofs.dumping.dump_on.Goals as goal
 
 pub returns-in-Ok : goal.returns-in-Ok
@@ -19,38 +19,22 @@ returns-in-Ok g c =
     let M = g.M.Machine in
     let a = c.args.m.now in
     let m = c.sync.new.self in
-    let b = c.dump_and_end.new.m in
+    let b = c.dump_asked.new.m in
+    let v = c.args.v in
+    let status = c.dump_asked.result in
     let sync = c.in-Ok.ensures in
-    let x = c.dump_and_end.ensures in
-    let d = x.mid in
-    let s = V.state c.args.v in
-    let status = c.dump_and_end.result in
+    let x = c.dump_asked.ensures in
     let timed = timed_by M g.met.M.Machine.dated g.met.M.Machine.history g.met.M.Machine.counts_now g.met.M.Machine.only_now in
     let told = told_synced (M.report a) (M.report m) c.in-Ok.field-0 sync.sectors sync.cause in
     let uses : UsesDisk (M.report a) (M.report m) = record { sectors = sync.sectors; disk = sync.cause.disk.later; input = sync.cause.input; output = sync.cause.output } in
     let reads : KeepsSynced M a m = synced_keeps M a m uses sync.trust sync.worn sync.time (timed a) in
-    let end = ends_of M s c.requires.up (λ y at h left. g.met.M.Machine.only_now y at h left) (LeavesDumped V.state V.holds c.args.v c.args.since) m d b status x.result x.order x.disk x.tells x.ends in
-    let keeps = keeps_end M d b status s.layout m end in
+    let from = from_asked V.state V.holds M c.args.since c.args.most v c.requires.up (λ y at h left. g.met.M.Machine.only_now y at h left) a m b status told reads x sync.counted in
     record {
-      ends = record {
-        run = record {
-          status = end_status M s.layout a m d b status told end;
-          trust = trusts_on sync.trust (trusts_on x.disk.trust keeps.trust);
-          last = end_last M s.layout a m d b status told end;
-        };
-        since = since_on M a m b (λ h. x.disk.trust.honest (keeps.trust.honest h)) reads.since (λ h. (sync.time h).later) (since_on M m d b keeps.trust.honest x.disk.since (λ h. (x.disk.any_moment h).later) keeps.since);
-      };
-      takes = record {
-        ledger = λ t. let at_d = keeps.trust.tells t in syncs_on 1 (M.ledger a) (synced_once (M.ledger a)) (M.ledger b) (keeps.ledger t ∙ x.disk.ledger at_d ∙ sync.counted (x.disk.trust.tells at_d)) (one_up_to (M.ledger a));
-        counts = end_counts M s.layout a m d b status told end;
-      };
-      tells = λ h. let at_d = keeps.trust.honest h in let some = (x.disk.exit at_d).0 in let front = take some.1.heard some.0 in record {
-        says = end_says M s.layout a m d b status told end front (some.1.said ∙ ap (λ (bytes : List ℕ). bytes ++ front) (sync.worn (x.disk.trust.honest at_d)).said) h;
-        spent = end_unspent M s.layout a m d b status told end;
-      };
-      runs = λ h input rest k none stands on. let back = x.disk.trust.honest (keeps.trust.honest h) in
-          dump_out V.state V.holds M k c.args.v a m (g.met.V.Files.wears c.args.v k) stands on (λ y honest. g.met.M.Machine.short y honest) timed reads back none (sync.synced back) told input rest c.args.since d b status h x.result x.disk
-          (λ at_d. x.done at_d k (stands_synced V.state V.holds M k c.args.v a m (g.met.V.Files.wears c.args.v k) stands on (λ y honest. g.met.M.Machine.short y honest) timed reads back)) x.ends;
+      ends = from_ends M (V.state v).layout a b status from;
+      takes = from_takes M (V.state v).layout a b status from;
+      tells = from_tells M (V.state v).layout a b status from;
+      runs = λ h input rest k none stands on.
+          asked_out V.state V.holds M c.args.since c.args.most v c.requires.up (λ y at honest left. g.met.M.Machine.only_now y at honest left) a m b status told reads k (g.met.V.Files.wears v k) stands on (λ y honest. g.met.M.Machine.short y honest) timed sync.synced none input rest x h;
     }
 
 pub returns-in-Err : goal.returns-in-Err
@@ -86,6 +70,7 @@ returns-in-Err g c =
         says = λ three. absurd (not_as 3 4 status (λ e. omega (arith, e)) (λ e. omega (arith, e)) line.status three);
         spent = not_as 9 4 status (λ e. omega (arith, e)) (λ e. omega (arith, e)) line.status;
       };
-      runs = λ h input rest k none stands on. let back = line.says.trust.honest h in
-          unsynced_out V.state V.holds M k c.args.v a m (g.met.V.Files.wears c.args.v k) stands on (λ y honest. g.met.M.Machine.short y honest) timed reads back none why tt told input rest c.args.since b status line.says h (line.ends h);
+      runs = λ h input rest k none stands on. let back = line.says.trust.honest h in let asked = span_of c.args.since c.args.most (volume_of k).entries in
+          runs_dumped M c.args.since c.args.most (M.report a) k a b input rest status asked refl
+          (unbegun_out V.state V.holds M k c.args.v a m (g.met.V.Files.wears c.args.v k) stands on (λ y honest. g.met.M.Machine.short y honest) timed reads back none c.args.since c.args.most b status why tt told line.says h (line.ends h) asked);
     }

@@ -1,8 +1,11 @@
 use Rattle.std.proofs.Common.{inr, None, refl}
 use Rattle.fsd_runs.specs.declared.request.Request.TheVariants.{Dump}
+use Rattle.fsd_runs.specs.Dumps.{span_of}
+use Rattle.fsd_runs.specs.Sessions.{session_over}
 use Rattle.scrub.specs.Telling.{StandTwice}
 use Rattle.volume_turns.specs.Causes.{Parts}
 use Rattle.volume_turns.proofs.BehindLaws.{RefusedBy, RunsOver, over_counts, over_image, over_leaves, over_syncs, over_trust, refused_counts, refused_image, refused_last, refused_leaves, refused_of, refused_syncs, refused_trust}
+use Rattle.volume_turns.proofs.DumpAskedLaws.{some_asked}
 use Rattle.volume_turns.proofs.DumpLaws.{dump_unsaid}
 use Rattle.volume_turns.proofs.SayLaws.{timed_by}
 use Rattle.volume_turns.proofs.StatusLaws.{fault_ends}
@@ -26,7 +29,7 @@ returns-in-Ok g c =
       };
       image = λ h. over_image x Parts StandTwice None c.dump_on.result h (does.tells h).says (does.tells h).spent;
       leaves = λ h input rest was at held.
-          over_leaves x g.V.Files.holds (Dump c.args.since) input rest was c.dump_on.result h does.ends.since (λ y t. g.met.M.Machine.counts_now y t) (timed_by M g.met.M.Machine.dated g.met.M.Machine.history g.met.M.Machine.counts_now g.met.M.Machine.only_now) held
+          over_leaves x g.V.Files.holds (Dump c.args.since c.args.most) input rest was c.dump_on.result h does.ends.since (λ y t. g.met.M.Machine.counts_now y t) (timed_by M g.met.M.Machine.dated g.met.M.Machine.history g.met.M.Machine.counts_now g.met.M.Machine.only_now) held
           (e.sound (does.ends.run.trust.honest h) was.layout was.windows was.changes was.forced at) (λ k none idle stands disk. does.runs h input rest k none stands disk);
     }
 
@@ -51,6 +54,6 @@ returns-in-Err g c =
       };
       image = refused_image x Parts StandTwice None;
       leaves = λ h input rest was at held.
-          refused_leaves x g.V.Files.state g.V.Files.holds (Dump c.args.since) input rest was h (g.met.M.Machine.short c.mount.new.m) (λ y t. g.met.M.Machine.counts_now y t)
-          (timed_by M g.met.M.Machine.dated g.met.M.Machine.history g.met.M.Machine.counts_now g.met.M.Machine.only_now) at held (e.sound (line.says.trust.honest h) was.layout was.windows was.changes was.forced at) (λ v. refl) (dump_unsaid c.args.since);
+          refused_leaves x g.V.Files.state g.V.Files.holds (Dump c.args.since c.args.most) input rest was h (g.met.M.Machine.short c.mount.new.m) (λ y t. g.met.M.Machine.counts_now y t)
+          (timed_by M g.met.M.Machine.dated g.met.M.Machine.history g.met.M.Machine.counts_now g.met.M.Machine.only_now) at held (e.sound (line.says.trust.honest h) was.layout was.windows was.changes was.forced at) (λ v. some_asked (span_of c.args.since c.args.most v.entries) v (session_over v)) (dump_unsaid c.args.since c.args.most);
     }
