@@ -34,17 +34,18 @@ use Rattle.fsd_texts.specs.declared.fault.Fault.TheVariants as Ended
 use Rattle.fsd_texts.specs.declared.script_command.ScriptCommand.{ScriptCommand}
 use Rattle.fsd_runs.specs.declared.request.Request.{Request}
 use Rattle.fsd_runs.specs.declared.request.Request.TheVariants as Asks
-use Rattle.fsd_runs.specs.Dumps.{dump_of}
-use Rattle.fsd_runs.specs.Errands.{Answered, BySector, Cut, Damages, Errand, IfMounts, Turn, blank, fault_status}
+use Rattle.fsd_runs.specs.declared.span.Span.{Span}
+use Rattle.fsd_runs.specs.Dumps.{dump_of, span_of}
+use Rattle.fsd_runs.specs.Errands.{Answered, ByFault, ByRefusal, BySector, Cut, Damages, Errand, IfMounts, Turn, blank, fault_status}
 use Rattle.fsd_runs.specs.Leaves.{IsBrokenOff, IsReplied, IsSoundAsSaid, IsSpent, IsUnderWay, IsUndone, IsUnsaid, Left, LeftBefore, LeftByTurns, LeavesMounted, LeavesUnmounted, SaysNext, Unbegun, Whatever}
-use Rattle.fsd_runs.specs.Runs.{Goes, GoesSo, IsCutAt, IsThrough, Starts, StoodAt, answered, changes_in, errand_in, run_end, run_status, run_turns}
+use Rattle.fsd_runs.specs.Runs.{Goes, GoesSo, IsCutAt, IsDumpedSo, IsThrough, Starts, StoodAt, answered, changes_in, errand_in, run_end, run_status, run_turns}
 use Rattle.fsd_runs.specs.Sessions.{Meeting, answer_in, session_over}
 use Rattle.fsd_runs.proofs.LeaveLaws.{replied_held}
 use Rattle.cfs_program.specs.Formatting.{HoldsVolume, IsMadeBy}
 use Rattle.cfs_program.specs.Opening.{IsSoundDisk}
 use Rattle.cfs_program.specs.Program.{Ran, input_for}
 use Rattle.cfs_program.proofs.OpeningLaws.{said_disk}
-use Rattle.fsd_history.specs.History.{AreLives, GoesOnAt, HasShown, IsDone, IsFresh, IsLeft, IsLife, IsOver, Life, Meets, Mounts, Plays, PlaysSo, Tells, TellsSo}
+use Rattle.fsd_history.specs.History.{AreLives, DumpsSo, GoesOnAt, HasShown, IsDone, IsFresh, IsLeft, IsLife, IsOver, Life, Meets, Mounts, Plays, PlaysSo, Tells, TellsSo}
 
 -- ---- prefixes
 
@@ -121,10 +122,18 @@ goes_meet hurt Past t Last e said i s (x ∷ xs) [] goes = absurd goes
 goes_meet hurt Past t Last e said i s (x ∷ xs) (command ∷ commands) (j, at, goes) =
     (j, stood_there Past t said j at.exit, at.may, goes_meet hurt Past t Last e (said ++ e.says (answer_in x s command).0) j (answer_in x s command).1 xs commands goes)
 
+-- by the span of a dump
+dumps_so : (r : Result Span ℕ) (cut : Cut) (Past : ℕ → Moment → Type 0) (t : ℕ) (base : List ℕ) (v : Volume) (i : Image) → IsDumpedSo r cut (Past t) base v i → DumpsSo (OfPast Past) r cut v i
+dumps_so r None Past t base v i so = tt
+dumps_so (Ok span) (Some (Damages found)) Past t base v i (some, (j, stood, picks)) = (some, (j, stood_there Past t base j stood, picks))
+dumps_so (Ok span) (Some (BySector k s)) Past t base v i (whole, (j, stood, spoilt)) = (whole, (j, stood_there Past t (base ++ concat (take (suc k) (dump_of span v))) j stood, spoilt))
+dumps_so (Ok span) (Some (ByFault k why)) Past t base v i so = absurd so
+dumps_so (Ok span) (Some (ByRefusal k)) Past t base v i so = absurd so
+dumps_so (Err need) (Some x) Past t base v i so = absurd so
+
 plays_so : (request : Request) (cut : Cut) (Past : ℕ → Moment → Type 0) (t : ℕ) (base : List ℕ) (v : Volume) (i : Image) (done : List Answered) → GoesSo request cut (Past t) base v i done → PlaysSo (OfPast Past) request cut v i done
 plays_so Asks.Restore cut Past t base v i done so = so
-plays_so (Asks.Dump since most) (Some (Damages found)) Past t base v i done (some, (j, stood, picks)) = (some, (j, stood_there Past t base j stood, picks))
-plays_so (Asks.Dump since most) (Some (BySector k s)) Past t base v i done (whole, (j, stood, spoilt)) = (whole, (j, stood_there Past t (base ++ concat (take (suc k) (dump_of since v))) j stood, spoilt))
+plays_so (Asks.Dump since most) cut Past t base v i done so = dumps_so (span_of since most v.entries) cut Past t base v i so
 plays_so request cut Past t base v i done so = tt
 
 starts_fresh : (l : Layout) (windows : List WeakRun) (h : List Change) (v : Volume) (i : Image) → Starts l windows h v i → IsFresh i (after h) v

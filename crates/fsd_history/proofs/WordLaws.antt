@@ -264,7 +264,7 @@ ends_plainly Shown (Asks.Put name keep) input said s next status x =
     (λ nought. put_found name keep input Shown said s next (subst (λ (n : ℕ). Ends Shown (Asks.Put name keep) input s said n next) nought x), put_refused name keep input Shown said s next status x)
 ends_plainly Shown (Asks.One (Word.Get key)) input said s next status x = get_says Shown key [] said s next status x
 ends_plainly Shown (Asks.One (Word.List pattern)) input said s next status x = pattern_says Shown pattern [] said s next status x
-ends_plainly Shown (Asks.Dump since most) input said s next status x = dump_ends Shown since said s next status x
+ends_plainly Shown (Asks.Dump since most) input said s next status x = dump_ends Shown since most said s next status x
 ends_plainly Shown Asks.Restore input said s next status x = restore_ends Shown input said s next status x
 ends_plainly Shown request input said s next status x = tt
 
@@ -272,7 +272,7 @@ stops_plainly : (Shown : Image → Type 0) (request : Request) (input said : Lis
 stops_plainly Shown (Asks.Put name keep) input said s next x = put_stops name keep input Shown said s next x
 stops_plainly Shown (Asks.One (Word.Get key)) input said s next x = still_stops (Word.Get key) (λ reply. refl) [] Shown said s next x
 stops_plainly Shown (Asks.One (Word.List pattern)) input said s next x = still_stops (Word.List pattern) (λ reply. refl) [] Shown said s next x
-stops_plainly Shown (Asks.Dump since most) input said s next x = dump_stops Shown since said s next x
+stops_plainly Shown (Asks.Dump since most) input said s next x = dump_stops Shown since most said s next x
 stops_plainly Shown Asks.Restore input said s next x = restore_stops Shown input said s next x
 stops_plainly Shown request input said s next x = tt
 
