@@ -1,6 +1,6 @@
 -- What dumps and restores do, in words of files: a dump changes nothing, and of what a restore is given some first versions are
 -- loaded, at 0 all.
-use Rattle.std.proofs.Common.{◌≡◌, ◌⊎◌, inl, inr, ⊎_elim, ℕ, zero, suc, ◌-◌, Bool, true, false, List, [], ◌∷◌, ◌++◌, length, map, take, Option, Some, None, Ok, Err, refl, sym, ap, subst, ◌∙◌, arith}
+use Rattle.std.proofs.Common.{◌≡◌, ◌⊎◌, inl, inr, ⊎_elim, ℕ, zero, suc, ◌-◌, ◌≤◌, Bool, true, false, List, [], ◌∷◌, ◌++◌, length, map, take, Option, Some, None, Result, Ok, Err, refl, sym, ap, subst, ◌∙◌, arith}
 use Rattle.std.specs.Prelude.{IsSome, T, nat_lt, ◌==◌, if◌then◌else◌}
 use Rattle.std.specs.Option.{option_or}
 use Rattle.std.specs.List.{AllByRecursion, concat, flat_map, fold}
@@ -36,9 +36,12 @@ use Rattle.fsd_texts.specs.declared.script_command.ScriptCommand.{ScriptCommand}
 use Rattle.fsd_texts.specs.Script.{max_input}
 use Rattle.fsd_runs.specs.declared.request.Request.TheVariants as Asks
 use Rattle.fsd_runs.specs.Commands.{answer, changes_of}
-use Rattle.fsd_runs.specs.Dumps.{bytes_found, chosen, dump_of, dumped_of, first_there, latest_of}
-use Rattle.fsd_runs.specs.Errands.{Answered, ByFault, ByRefusal, BySector, Cut, Damages, Errand, MayCut, Turn, blank, cut_off, damage_turn, fault_status, first_refusal, load_of, nothing_but, refusal_of, restore_of, restored_unless, restoring, restoring_none, restoring_unless, said_turn}
-use Rattle.fsd_runs.specs.Runs.{IsRestoredSo, RefusesLast, answered, changes_in, errand_in, said_in, turn_of, turns_of, turns_with}
+use Rattle.fsd_runs.proofs.LengthLaws.{span_long}
+use Rattle.fsd_runs.proofs.SpanLaws.{span_fits}
+use Rattle.fsd_runs.specs.Dumps.{bytes_found, chosen, dump_length, dump_of, dumped_of, first_there, latest_of, made_before, span_of}
+use Rattle.fsd_runs.specs.declared.span.Span.{Span}
+use Rattle.fsd_runs.specs.Errands.{Answered, ByFault, ByRefusal, BySector, Cut, Damages, Errand, MayCut, Turn, blank, cut_off, damage_turn, dumping, fault_status, first_refusal, load_of, nothing_but, refusal_of, refusing, restore_of, restored_unless, restoring, restoring_unless, said_turn}
+use Rattle.fsd_runs.specs.Runs.{IsRestoredSo, RefusesLast, answered, changes_in, said_in, turn_of, turns_of, turns_with}
 use Rattle.fsd_runs.specs.Sessions.{Meeting, answer_in, session_over}
 use Rattle.fsd_history.specs.History.{Ends, IsFull, LoadsAll, LoadsSome, Plays, Stops, load_change, loads_read, turns_in}
 
@@ -56,45 +59,64 @@ each_changes_none : {X : Type 0} (f : X → Turn) → ((x : X) → (f x).changes
 each_changes_none f none [] = tt
 each_changes_none f none (x ∷ xs) = (none x, each_changes_none f none xs)
 
+-- what is said behind the commands changes nothing
+behind_none : (e : Errand) (done : List Answered) → ChangeNone (e.ends done).turns → ChangeNone (if length done == length e.commands then (e.ends done).turns else blank ∷ [])
+behind_none e done none = by (length done == length e.commands)
+  where
+    by : (b : Bool) → ChangeNone (if b then (e.ends done).turns else blank ∷ [])
+    by true = none
+    by false = (refl, tt)
+
 -- ---- dumps
 
-answered_none : (mets : List Meeting) (s : Session) → answered mets s [] ≡ []
+pub answered_none : (mets : List Meeting) (s : Session) → answered mets s [] ≡ []
 answered_none [] s = refl
 answered_none (x ∷ mets) s = refl
 
-module _ (since : Serial) (v : Volume) where
-  abbrev dump_in : Cut → Errand
-  dump_in cut = errand_in (Asks.Dump since most) [] cut v
+module _ (since : Serial) (most : Option ℕ) (v : Volume) where
+  abbrev dump_by : Result Span ℕ → Cut → Errand
+  dump_by r cut = cut_off cut (dumping r v)
 
-  none_answered : (cut : Cut) → MayCut (Asks.Dump since most) cut → (mets : List Meeting) → answered mets (session_over v) (dump_in cut).commands ≡ []
-  none_answered None may mets = answered_none mets (session_over v)
-  none_answered (Some (Damages found)) may mets = answered_none mets (session_over v)
-  none_answered (Some (BySector k t)) may mets = answered_none mets (session_over v)
-  none_answered (Some (ByFault k why)) may mets = absurd may
-  none_answered (Some (ByRefusal k)) may mets = absurd may
+  none_commanded : (r : Result Span ℕ) → (dumping r v).commands ≡ []
+  none_commanded (Ok span) = refl
+  none_commanded (Err need) = refl
 
-  dumps_none : (cut : Cut) → MayCut (Asks.Dump since most) cut → ChangeNone (turns_with (dump_in cut) [])
-  dumps_none None may = each_changes_none said_turn (λ x. refl) (dump_of since v)
-  dumps_none (Some (Damages found)) may = each_changes_none damage_turn (λ x. refl) found
-  dumps_none (Some (BySector k t)) may = each_taken (λ t. t.changes ≡ []) (suc k) (map said_turn (dump_of since v)) (each_changes_none said_turn (λ x. refl) (dump_of since v))
-  dumps_none (Some (ByFault k why)) may = absurd may
-  dumps_none (Some (ByRefusal k)) may = absurd may
+  none_answered : (r : Result Span ℕ) (cut : Cut) → MayCut (Asks.Dump since most) cut → (mets : List Meeting) → answered mets (session_over v) (dump_by r cut).commands ≡ []
+  none_answered r None may mets = ap (answered mets (session_over v)) (none_commanded r) ∙ answered_none mets (session_over v)
+  none_answered r (Some (Damages found)) may mets = ap (answered mets (session_over v)) (none_commanded r) ∙ answered_none mets (session_over v)
+  none_answered r (Some (BySector k t)) may mets = ap (answered mets (session_over v)) (none_commanded r) ∙ answered_none mets (session_over v)
+  none_answered r (Some (ByFault k why)) may mets = absurd may
+  none_answered r (Some (ByRefusal k)) may mets = absurd may
 
-  dump_changes_none : (cut : Cut) → MayCut (Asks.Dump since most) cut → (mets : List Meeting) → ChangeNone (turns_of (dump_in cut) mets (session_over v))
-  dump_changes_none cut may mets = subst (λ (done : List Answered). ChangeNone (turns_with (dump_in cut) done)) (sym (none_answered cut may mets)) (dumps_none cut may)
+  -- what is said changes nothing either
+  says_none : (r : Result Span ℕ) → ChangeNone ((dumping r v).ends []).turns
+  says_none (Ok span) = each_changes_none said_turn (λ x. refl) (dump_of span v)
+  says_none (Err need) = (refl, tt)
 
-pub dump_ends : (Shown : Image → Type 0) (since : Serial) (said : List ℕ) (s next : Files) (status : ℕ) → Ends Shown (Asks.Dump since most) [] s said status next → next ≡ s
-dump_ends Shown since said s next status x =
-    let p = x.plays in
-    x.files ∙ ap (fold step s) (none_changed (turns_in p) (dump_changes_none since p.volume p.cut p.may p.mets))
+  ends_none_changed : (r : Result Span ℕ) (cut : Cut) → MayCut (Asks.Dump since most) cut → ChangeNone ((dump_by r cut).ends []).turns
+  ends_none_changed r None may = says_none r
+  ends_none_changed r (Some (Damages found)) may = each_changes_none damage_turn (λ x. refl) found
+  ends_none_changed r (Some (BySector k t)) may = each_taken (λ t. t.changes ≡ []) (suc k) ((dumping r v).ends []).turns (says_none r)
+  ends_none_changed r (Some (ByFault k why)) may = absurd may
+  ends_none_changed r (Some (ByRefusal k)) may = absurd may
 
-pub dump_stops : (Shown : Image → Type 0) (since : Serial) (said : List ℕ) (s next : Files) → Stops Shown (Asks.Dump since most) [] s said next → next ≡ s
-dump_stops Shown since said s next (inl (fault, is)) = is
-dump_stops Shown since said s next (inr x) =
-    let p = x.plays in
-    let begun = take (suc x.whole) (turns_in p) in
-    let none = none_changed begun (each_taken (λ t. t.changes ≡ []) (suc x.whole) (turns_in p) (dump_changes_none since p.volume p.cut p.may p.mets)) in
-    x.files ∙ ap (λ (cs : List Change). fold step s (take x.found cs)) none ∙ ap (fold step s) (take-nil x.found)
+  dump_changes_none : (r : Result Span ℕ) (cut : Cut) → MayCut (Asks.Dump since most) cut → (mets : List Meeting) → ChangeNone (turns_of (dump_by r cut) mets (session_over v))
+  dump_changes_none r cut may mets = subst (λ (done : List Answered). ChangeNone (turns_with (dump_by r cut) done)) (sym (none_answered r cut may mets)) (behind_none (dump_by r cut) [] (ends_none_changed r cut may))
+
+module _ (Shown : Image → Type 0) (since : Serial) (most : Option ℕ) (said : List ℕ) (s next : Files) where
+  pub dump_ends : (status : ℕ) → Ends Shown (Asks.Dump since most) [] s said status next → next ≡ s
+  dump_ends status x =
+      let p = x.plays in
+      x.files ∙ ap (fold step s) (none_changed (turns_in p) (dump_changes_none since most p.volume (span_of since most p.volume.entries) p.cut p.may p.mets))
+
+  pub dump_stops : Stops Shown (Asks.Dump since most) [] s said next → next ≡ s
+  dump_stops (inl (fault, is)) = is
+  dump_stops (inr x) =
+      let p = x.plays in
+      let begun = take (suc x.whole) (turns_in p) in
+      let all = dump_changes_none since most p.volume (span_of since most p.volume.entries) p.cut p.may p.mets in
+      let none = none_changed begun (each_taken (λ t. t.changes ≡ []) (suc x.whole) (turns_in p) all) in
+      x.files ∙ ap (λ (cs : List Change). fold step s (take x.found cs)) none ∙ ap (fold step s) (take-nil x.found)
 
 -- ---- one load
 
@@ -225,14 +247,6 @@ restored_so (Some (BySector k t)) done so = none_refused done so
 
 -- ---- a restore
 
--- what is said behind the commands changes nothing
-behind_none : (e : Errand) (done : List Answered) → ChangeNone (e.ends done).turns → ChangeNone (if length done == length e.commands then (e.ends done).turns else blank ∷ [])
-behind_none e done none = by (length done == length e.commands)
-  where
-    by : (b : Bool) → ChangeNone (if b then (e.ends done).turns else blank ∷ [])
-    by true = none
-    by false = (refl, tt)
-
 changes_front : (e : Errand) (done : List Answered) (tail : List Turn) → ChangeNone tail → (m : ℕ) → changes_in (take m (map (turn_of e) done ++ tail)) ≡ changes_done (take m done)
 changes_front e done tail none zero = refl
 changes_front e [] tail none (suc m) = none_changed (take (suc m) tail) (each_taken (λ t. t.changes ≡ []) (suc m) tail none)
@@ -277,12 +291,15 @@ loads_cut all (Some (ByRefusal k)) e is = first_loads all k (cut_off (Some (ByRe
 loads_cut all (Some (Damages found)) e is = all_loads all (cut_off (Some (Damages found)) e) is
 loads_cut all (Some (BySector k t)) e is = all_loads all (cut_off (Some (BySector k t)) e) is
 
+still_none : (cut : Cut) (e : Errand) → e.commands ≡ [] → (cut_off cut e).commands ≡ []
+still_none None e is = is
+still_none (Some (ByFault k why)) e is = ap (take k) is ∙ take-nil k
+still_none (Some (ByRefusal k)) e is = ap (take k) is ∙ take-nil k
+still_none (Some (Damages found)) e is = is
+still_none (Some (BySector k t)) e is = is
+
 none_cut : (all : List Change) (cut : Cut) (e : Errand) → e.commands ≡ [] → Loads all (cut_off cut e)
-none_cut all None e is = no_loads all e is
-none_cut all (Some (ByFault k why)) e is = no_loads all (cut_off (Some (ByFault k why)) e) (ap (take k) is ∙ take-nil k)
-none_cut all (Some (ByRefusal k)) e is = no_loads all (cut_off (Some (ByRefusal k)) e) (ap (take k) is ∙ take-nil k)
-none_cut all (Some (Damages found)) e is = no_loads all (cut_off (Some (Damages found)) e) is
-none_cut all (Some (BySector k t)) e is = no_loads all (cut_off (Some (BySector k t)) e) is
+none_cut all cut e is = no_loads all (cut_off cut e) (still_none cut e is)
 
 -- a restore that is cut off changes nothing behind its commands, if it changes nothing there where it is not
 ends_cut : (cut : Cut) → MayCut Asks.Restore cut → (e : Errand) → ((done : List Answered) → ChangeNone (e.ends done).turns) → (done : List Answered) → ChangeNone ((cut_off cut e).ends done).turns
@@ -293,16 +310,24 @@ ends_cut (Some (Damages found)) may e none done = absurd may
 ends_cut (Some (BySector k t)) may e none done = absurd may
 
 -- a fault that ends one has a status of its own
-fault_ends : (k : ℕ) (why : Fault) → MayCut Asks.Restore (Some (ByFault k why)) → 0 ≡ fault_status why → ⊥
-fault_ends k Ended.WornOut may nought = omega (arith, nought)
-fault_ends k why may nought = absurd may
+module _ (n : ℕ) (own : n ≡ 9 → ⊥) where
+  fault_ends : (k : ℕ) (why : Fault) → MayCut Asks.Restore (Some (ByFault k why)) → n ≡ fault_status why → ⊥
+  fault_ends k Ended.WornOut may is = own is
+  fault_ends k why may is = absurd may
 
-no_end : (cut : Cut) → MayCut Asks.Restore cut → (e : Errand) (done : List Answered) → (0 ≡ (e.ends done).status → ⊥) → 0 ≡ ((cut_off cut e).ends done).status → ⊥
-no_end None may e done other nought = other nought
-no_end (Some (ByFault k why)) may e done other nought = fault_ends k why may nought
-no_end (Some (ByRefusal k)) may e done other nought = other nought
-no_end (Some (Damages found)) may e done other nought = may
-no_end (Some (BySector k t)) may e done other nought = may
+  no_end : (cut : Cut) → MayCut Asks.Restore cut → (e : Errand) (done : List Answered) → (n ≡ (e.ends done).status → ⊥) → n ≡ ((cut_off cut e).ends done).status → ⊥
+  no_end None may e done other is = other is
+  no_end (Some (ByFault k why)) may e done other is = fault_ends k why may is
+  no_end (Some (ByRefusal k)) may e done other is = other is
+  no_end (Some (Damages found)) may e done other is = may
+  no_end (Some (BySector k t)) may e done other is = may
+
+-- that of one that ended well, or for want of its input, is another
+nought_own : ◌≡◌ {A = ℕ} 0 9 → ⊥
+nought_own is = omega (arith, is)
+
+five_own : ◌≡◌ {A = ℕ} 5 9 → ⊥
+five_own is = omega (arith, is)
 
 restored_none : (o : Option Refusal) (count : ℕ) → ChangeNone (restored_unless o count).turns
 restored_none (Some why) count = (refl, tt)
@@ -323,12 +348,12 @@ module _ (v : Volume) where
   ends_none false (Ok items) done = unless_none (first_there items v.entries) items done
 
   unless_loads : (there : Option Key) (items : List Dumped) (cut : Cut) → Loads (map load_change items) (cut_off cut (restoring_unless there items))
-  unless_loads (Some key) items cut = none_cut (map load_change items) cut (restoring_none (Says.Exists key)) refl
+  unless_loads (Some key) items cut = none_cut (map load_change items) cut (refusing (Says.Exists key)) refl
   unless_loads None items cut = loads_cut items cut (restoring items) refl
 
   restore_loads : (b : Bool) (read : ItemsRead) (cut : Cut) → Loads (loads_read read) (cut_off cut (restore_by b read))
   restore_loads true read cut = none_cut (loads_read read) cut (nothing_but Ended.InputTooLong) refl
-  restore_loads false (Err place) cut = none_cut [] cut (restoring_none (Says.NoDump place)) refl
+  restore_loads false (Err place) cut = none_cut [] cut (refusing (Says.NoDump place)) refl
   restore_loads false (Ok items) cut = unless_loads (first_there items v.entries) items cut
 
   -- the changes of some first turns are some first loads
@@ -359,8 +384,8 @@ module _ (v : Volume) where
   unless_all : (there : Option Key) (items : List Dumped) (cut : Cut) → MayCut Asks.Restore cut → (mets : List Meeting) → length mets ≡ length (cut_off cut (restoring_unless there items)).commands
       → IsRestoredSo cut (done_by cut (restoring_unless there items) mets) → EndsWell cut (restoring_unless there items) mets → changes_done (done_by cut (restoring_unless there items) mets) ≡ map load_change items
   unless_all (Some key) items cut may mets through so nought =
-      let e = restoring_none (Says.Exists key) in
-      absurd (no_end cut may e (done_by cut e mets) (λ bad. omega (arith, bad)) nought)
+      let e = refusing (Says.Exists key) in
+      absurd (no_end 0 nought_own cut may e (done_by cut e mets) (λ bad. omega (arith, bad)) nought)
   unless_all None items None may mets through so nought = loads_all items mets (session_over v) (through ∙ length-map items load_of) so
   unless_all None items (Some (ByRefusal k)) may mets through so nought = absurd (by (first_refusal done) so.2 nought)
     where
@@ -370,7 +395,7 @@ module _ (v : Volume) where
       by : (o : Option Refusal) → IsSome o → 0 ≡ (restored_unless o (length done)).status → ⊥
       by (Some why) some nought = omega (arith, nought)
       by None some nought = absurd (cc some)
-  unless_all None items (Some (ByFault k why)) may mets through so nought = absurd (fault_ends k why may nought)
+  unless_all None items (Some (ByFault k why)) may mets through so nought = absurd (fault_ends 0 nought_own k why may nought)
   unless_all None items (Some (Damages found)) may mets through so nought = absurd may
   unless_all None items (Some (BySector k t)) may mets through so nought = absurd may
 
@@ -378,17 +403,35 @@ module _ (v : Volume) where
       → EndsWell cut (restore_by b read) mets → (items : List Dumped) × (read ≡ Ok items) × (changes_done (done_by cut (restore_by b read) mets) ≡ map load_change items)
   restore_all true read cut may mets through so nought =
       let e = nothing_but Ended.InputTooLong in
-      absurd (no_end cut may e (done_by cut e mets) (λ bad. omega (arith, bad)) nought)
+      absurd (no_end 0 nought_own cut may e (done_by cut e mets) (λ bad. omega (arith, bad)) nought)
   restore_all false (Err place) cut may mets through so nought =
-      let e = restoring_none (Says.NoDump place) in
-      absurd (no_end cut may e (done_by cut e mets) (λ bad. omega (arith, bad)) nought)
+      let e = refusing (Says.NoDump place) in
+      absurd (no_end 0 nought_own cut may e (done_by cut e mets) (λ bad. omega (arith, bad)) nought)
   restore_all false (Ok items) cut may mets through so nought = (items, refl, unless_all (first_there items v.entries) items cut may mets through so nought)
+
+  -- of one whose input was too long there are none
+  unless_five : (there : Option Key) (items : List Dumped) (done : List Answered) → 5 ≡ ((restoring_unless there items).ends done).status → ⊥
+  unless_five (Some key) items done is = omega (arith, is)
+  unless_five None items done is = by (first_refusal done) is
+    where
+      by : (o : Option Refusal) → 5 ≡ (restored_unless o (length done)).status → ⊥
+      by (Some why) five = omega (arith, five)
+      by None five = omega (arith, five)
+
+  restore_five : (b : Bool) (read : ItemsRead) (cut : Cut) → MayCut Asks.Restore cut → (mets : List Meeting) → 5 ≡ ((cut_off cut (restore_by b read)).ends (done_by cut (restore_by b read) mets)).status → done_by cut (restore_by b read) mets ≡ []
+  restore_five true read cut may mets is = ap (answered mets (session_over v)) (still_none cut (nothing_but Ended.InputTooLong) refl) ∙ answered_none mets (session_over v)
+  restore_five false (Err place) cut may mets is =
+      let e = refusing (Says.NoDump place) in
+      absurd (no_end 5 five_own cut may e (done_by cut e mets) (λ bad. omega (arith, bad)) is)
+  restore_five false (Ok items) cut may mets is =
+      let e = restoring_unless (first_there items v.entries) items in
+      absurd (no_end 5 five_own cut may e (done_by cut e mets) (unless_five (first_there items v.entries) items (done_by cut e mets)) is)
 
 restored_first : (Shown : Image → Type 0) (input : List ℕ) (s : Files) (p : Plays Shown Asks.Restore input s) (m : ℕ) → AreFirst (loads_read (dumped_in input)) (changes_in (take m (turns_in p)))
 restored_first Shown input s p m = turns_first p.volume (nat_lt max_input (length input)) (dumped_in input) p.cut p.may p.mets p.so m
 
-pub restore_ends : (Shown : Image → Type 0) (input said : List ℕ) (s next : Files) (status : ℕ) → Ends Shown Asks.Restore input s said status next → (status ≡ 0 → LoadsAll input s next) × LoadsSome input s next
-restore_ends Shown input said s next status x = (all, (some.0, x.files ∙ ap (fold step s) (sym (ap changes_in (take_all (length (turns_in p)) (turns_in p) (omega arith))) ∙ some.1)))
+pub restore_ends : (Shown : Image → Type 0) (input said : List ℕ) (s next : Files) (status : ℕ) → Ends Shown Asks.Restore input s said status next → (status ≡ 0 → LoadsAll input s next) × (status ≡ 5 → next ≡ s) × LoadsSome input s next
+restore_ends Shown input said s next status x = (all, none, (some.0, x.files ∙ ap (fold step s) (sym (ap changes_in (take_all (length (turns_in p)) (turns_in p) (omega arith))) ∙ some.1)))
   where
     p : Plays Shown Asks.Restore input s
     p = x.plays
@@ -407,6 +450,17 @@ restore_ends Shown input said s next status x = (all, (some.0, x.files ∙ ap (f
         let tail = behind_none e done (ends_cut cut x.plays.may (restore_by v b (dumped_in input)) (ends_none v b (dumped_in input)) done) in
         (made.0, made.1, x.files ∙ ap (fold step s) (changes_whole e done (if length done == length e.commands then (e.ends done).turns else blank ∷ []) tail ∙ made.2))
 
+    none : status ≡ 5 → next ≡ s
+    none five =
+        let b = nat_lt max_input (length input) in
+        let v = x.plays.volume in
+        let cut = x.plays.cut in
+        let e = cut_off cut (restore_by v b (dumped_in input)) in
+        let done = answered x.plays.mets (session_over v) e.commands in
+        let made = restore_five v b (dumped_in input) cut x.plays.may x.plays.mets (sym five ∙ x.ends) in
+        let tail = behind_none e done (ends_cut cut x.plays.may (restore_by v b (dumped_in input)) (ends_none v b (dumped_in input)) done) in
+        x.files ∙ ap (fold step s) (changes_whole e done (if length done == length e.commands then (e.ends done).turns else blank ∷ []) tail ∙ ap changes_done made)
+
 pub restore_stops : (Shown : Image → Type 0) (input said : List ℕ) (s next : Files) → Stops Shown Asks.Restore input s said next → LoadsSome input s next
 restore_stops Shown input said s next (inl (fault, is)) = (0, is)
 restore_stops Shown input said s next (inr x) =
@@ -420,14 +474,46 @@ said_parts : (parts : List (List ℕ)) → said_in (map said_turn parts) ≡ con
 said_parts [] = refl
 said_parts (part ∷ parts) = ap (λ (bytes : List ℕ). part ++ bytes) (said_parts parts)
 
--- a dump that ends with 0 has said all of it
-dump_said : (since : Serial) (v : Volume) (cut : Cut) → MayCut (Asks.Dump since most) cut → (mets : List Meeting) → 0 ≡ ((dump_in since v cut).ends (answered mets (session_over v) (dump_in since v cut).commands)).status
-    → said_in (turns_of (dump_in since v cut) mets (session_over v)) ≡ concat (dump_of since v)
-dump_said since v None may mets nought = ap (λ (done : List Answered). said_in (turns_with (dump_in since v None) done)) (none_answered since v None may mets) ∙ said_parts (dump_of since v)
-dump_said since v (Some (Damages found)) may mets nought = absurd (omega (arith, nought))
-dump_said since v (Some (BySector k t)) may mets nought = absurd (omega (arith, nought))
-dump_said since v (Some (ByFault k why)) may mets nought = absurd may
-dump_said since v (Some (ByRefusal k)) may mets nought = absurd may
+-- a dump that ends with 0 has said all of it, and of a span
+record IsDumped (r : Result Span ℕ) (v : Volume) (said : List ℕ) : Type 0 where
+  span : Span
+  spans : r ≡ Ok span
+  says : said ≡ concat (dump_of span v)
+
+dump_said : (since : Serial) (most : Option ℕ) (v : Volume) (r : Result Span ℕ) (cut : Cut) → MayCut (Asks.Dump since most) cut → (mets : List Meeting)
+    → 0 ≡ ((dump_by since most v r cut).ends (answered mets (session_over v) (dump_by since most v r cut).commands)).status → IsDumped r v (said_in (turns_of (dump_by since most v r cut) mets (session_over v)))
+dump_said since most v (Ok span) None may mets nought = record {
+  span = span;
+  spans = refl;
+  says = ap (λ (done : List Answered). said_in (turns_with (dump_by since most v (Ok span) None) done)) (none_answered since most v (Ok span) None may mets) ∙ said_parts (dump_of span v);
+}
+dump_said since most v (Err need) None may mets nought = absurd (omega (arith, nought))
+dump_said since most v r (Some (Damages found)) may mets nought = absurd (omega (arith, nought))
+dump_said since most v r (Some (BySector k t)) may mets nought = absurd (omega (arith, nought))
+dump_said since most v r (Some (ByFault k why)) may mets nought = absurd may
+dump_said since most v r (Some (ByRefusal k)) may mets nought = absurd may
+
+module _ {Shown : Image → Type 0} {since : Serial} {most : Option ℕ} {said : List ℕ} {s next : Files} (sorted : T (is_sorted key_cmp s)) (x : Ends Shown (Asks.Dump since most) [] s said 0 next) where
+  abbrev dumped : IsDumped (span_of since most x.plays.volume.entries) x.plays.volume (said_in (turns_in x.plays))
+  dumped = dump_said since most x.plays.volume (span_of since most x.plays.volume.entries) x.plays.cut x.plays.may x.plays.mets x.ends
+
+  in_order : T (is_sorted key_cmp x.plays.volume.files)
+  in_order = subst (λ (f : Files). T (is_sorted key_cmp f)) (sym x.plays.fresh.files) sorted
+
+  are_listed : Lists x.plays.volume.files x.plays.volume.entries
+  are_listed = subst (λ (f : Files). Lists f x.plays.volume.entries) (sym x.plays.fresh.files) x.plays.fresh.described.lists
+
+-- ---- of so many bytes at most
+
+pub dump_fits : (Shown : Image → Type 0) (since : Serial) (most : ℕ) (said : List ℕ) (s next : Files) → T (is_sorted key_cmp s) → Ends Shown (Asks.Dump since (Some most)) [] s said 0 next → length said ≤ most
+dump_fits Shown since most said s next sorted x =
+    let d = dumped sorted x in
+    let v = x.plays.volume in
+    let long : length said ≡ dump_length (chosen d.span v.entries) = ap (λ (bytes : List ℕ). length bytes) (x.says ∙ d.says) ∙ span_long d.span v (in_order sorted x) (are_listed sorted x) in
+    let fits = span_fits since most v.entries d.span d.spans in
+    omega (arith, long, fits)
+
+-- ---- of all versions
 
 -- the loads of all versions are those that make the files
 loads_are : (files s : Files) (entries : List Entry) → AllByRecursion (λ y. find key_cmp y.0 files ≡ Some y.1) s → Lists s entries → map load_change (map (dumped_of files) entries) ≡ loads_of s
@@ -442,20 +528,23 @@ loads_are files (y ∷ s) (e ∷ entries) found lists =
 one_list : (xs ys : List Dumped) → ◌≡◌ {A = ItemsRead} (Ok xs) (Ok ys) → xs ≡ ys
 one_list xs ys e = cc
 
-pub full_restored : (Shown Other : Image → Type 0) (since : Serial) (said more : List ℕ) (s between next : Files) → T (is_sorted key_cmp s) → (x : Ends Shown (Asks.Dump since most) [] s said 0 between) → IsFull since x.plays.volume
-    → Ends Other Asks.Restore said [] more 0 next → next ≡ s
-full_restored Shown Other since said more s between next sorted x full y =
+one_span : (a b : Span) → ◌≡◌ {A = Result Span ℕ} (Ok a) (Ok b) → a ≡ b
+one_span a b e = cc
+
+pub full_restored : (Shown Other : Image → Type 0) (since : Serial) (most : Option ℕ) (said more : List ℕ) (s between next : Files) → T (is_sorted key_cmp s) → (x : Ends Shown (Asks.Dump since most) [] s said 0 between)
+    → IsFull since most x.plays.volume → Ends Other Asks.Restore said [] more 0 next → next ≡ s
+full_restored Shown Other since most said more s between next sorted x full y =
     let p = x.plays in
     let v = p.volume in
-    let latest = latest_of v.entries in
+    let d = dumped sorted x in
+    let latest = latest_of (made_before d.span.before v.entries) in
     let items = map (dumped_of v.files) v.entries in
+    let all : chosen d.span v.entries ≡ v.entries = ap (λ (span : Span). chosen span v.entries) (one_span d.span full.span (sym d.spans ∙ full.spans)) ∙ full.all in
     let loaded = (restore_ends Other said more [] next 0 y).0 refl in
-    let text : said ≡ dump_bytes latest items = x.says ∙ dump_said since v p.cut p.may p.mets x.ends ∙ parts_are latest (map (dumped_of v.files) (chosen since v.entries)) ∙ ap (λ (es : List Entry). dump_bytes latest (map (dumped_of v.files) es)) full.all in
+    let text : said ≡ dump_bytes latest items = x.says ∙ d.says ∙ parts_are latest (map (dumped_of v.files) (chosen d.span v.entries)) ∙ ap (λ (es : List Entry). dump_bytes latest (map (dumped_of v.files) es)) all in
     let same : loaded.0 ≡ items = one_list loaded.0 items (sym loaded.1 ∙ ap dumped_in text ∙ dump_again latest items full.bounded) in
-    let in_order : T (is_sorted key_cmp v.files) = subst (λ (f : Files). T (is_sorted key_cmp f)) (sym p.fresh.files) sorted in
-    let lists : Lists v.files v.entries = subst (λ (f : Files). Lists f v.entries) (sym p.fresh.files) p.fresh.described.lists in
     loaded.2
     ∙ ap (λ (xs : List Dumped). fold step [] (map load_change xs)) same
-    ∙ ap (fold step []) (loads_are v.files v.files v.entries (found_there v.files in_order) lists)
-    ∙ loaded_again v.files in_order
+    ∙ ap (fold step []) (loads_are v.files v.files v.entries (found_there v.files (in_order sorted x)) (are_listed sorted x))
+    ∙ loaded_again v.files (in_order sorted x)
     ∙ p.fresh.files

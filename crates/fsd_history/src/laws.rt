@@ -1,5 +1,5 @@
 //! Laws over the definitions: the functions do nothing, the contract of each is a law.
-ghost use Rattle.std.specs.Prelude.{◌≡◌, ◌⊎◌, ◌++◌, ◌∷◌, ℕ, List, [], Option, None, Some, T};
+ghost use Rattle.std.specs.Prelude.{◌≡◌, ◌⊎◌, ◌≤◌, ◌++◌, ◌∷◌, ℕ, List, [], length, Option, None, Some, T};
 ghost use Rattle.sector_disk.specs.Calls.{IsHeld};
 ghost use Rattle.sector_disk.specs.Machine.{IsSynced, Moment};
 ghost use Rattle.volume_layout.specs.declared.kind.Kind.{Kind};
@@ -66,8 +66,8 @@ pub fn full_dumps_restore_the_files<M: Machine>()
 
 /// A dump that may have so many bytes at most has no more, where it ends with 0.
 pub fn dumps_have_so_many_bytes_at_most<M: Machine>()
-    ensures { (m : M) (since : Serial) (most : ℕ) (said : List ℕ) (s next : Files) → Ends (HasShown M.Machine m) (Dump since (Some most)) [] s said 0 next →
-        length said ≤ most }
+    ensures { (m : M) (since : Serial) (most : ℕ) (said : List ℕ) (s next : Files) → T (is_sorted key_cmp s) →
+        Ends (HasShown M.Machine m) (Dump since (Some most)) [] s said 0 next → length said ≤ most }
 {}
 
 /// A worked history: a put that was stopped at any moment, and a list that ended, over a volume that was formatted.

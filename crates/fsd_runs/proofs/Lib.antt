@@ -4,6 +4,7 @@ mod DumpExamples
 pub mod EndExamples
 pub mod LeaveExamples
 pub mod LeaveLaws
+pub mod LengthLaws
 pub mod OtherLaws
 pub mod PlaceExamples
 pub mod Plain
@@ -13,5 +14,6 @@ pub mod RunLaws
 pub mod SafeLaws
 pub mod SessionExamples
 pub mod SessionLaws
+pub mod SpanLaws
 pub mod StatusLaws
 pub mod WordExamples
