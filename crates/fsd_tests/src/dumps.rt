@@ -24,6 +24,21 @@ const NONE: &str = "CFSD\0\0\0\0\0\0\0\0\0\0\0\0CFSE\0\0\0\0";
 const TWO: &[u8] = b"CFSD\0\0\0\x02\0\0\0\x02\0\0\0\x02\
     \x01a\0\0\0\x01\0\x02\0\0\0\0\x01x\x01b\0\0\0\x01\0\x02\0\0\0\0\x01yCFSE\0\0\0\x02";
 
+// Of a volume in whose epoch 4 b!1 was made, and a!1 in epoch 5, the dump of b!1 alone.
+const FIRST: &str =
+    "CFSD\0\0\0\x01\0\0\0\x04\0\0\0\x01\x01b\0\0\0\x01\0\x02\0\0\0\0\x01yCFSE\0\0\0\x01";
+
+// That of a!1 alone.
+const SECOND: &str =
+    "CFSD\0\0\0\x01\0\0\0\x05\0\0\0\x01\x01a\0\0\0\x01\0\x02\0\0\0\0\x01xCFSE\0\0\0\x01";
+
+// That of both.
+const BOTH: &str = "CFSD\0\0\0\x02\0\0\0\x05\0\0\0\x01\
+    \x01a\0\0\0\x01\0\x02\0\0\0\0\x01x\x01b\0\0\0\x01\0\x02\0\0\0\0\x01yCFSE\0\0\0\x02";
+
+// Behind both there is nothing.
+const END: &str = "CFSD\0\0\0\0\0\0\0\x05\0\0\0\x01CFSE\0\0\0\0";
+
 // Of two versions the second finds no place, and the one before it stands.
 const FULL: [Row<'static>; 4] = [
     ("cfs put v c", &[7; 31_232], 0, "made c!1 62\n"),
@@ -77,6 +92,33 @@ fn a_fresh_volume_is_dumped_and_restored(rt: HostRuntime) -> Result<(), Fail> {
     let rows: [Row; 2] = [
         ("cfs dump v 0 0", b"", 0, NONE),
         ("cfs restore v", ONE.as_bytes(), 0, "restored 1\n"),
+    ];
+    assert_eq!(rt; wrong_on(rt.alloc(), FORMAT, &rows)?, None);
+    Ok(())
+}
+
+// The one that was made first is the second by its key.
+#[test]
+fn a_dump_has_as_many_of_the_first_versions_as_so_many_bytes_hold(
+    rt: HostRuntime,
+) -> Result<(), Fail> {
+    let rows: [Row; 11] = [
+        ("cfs dump v 0 0 --bytes 23", b"", 1, "refused too-long 24\n"),
+        ("cfs dump v 0 0 --bytes 24", b"", 0, NONE),
+        ("cfs put v b", b"y", 0, "made b!1 2\n"),
+        ("cfs put v a", b"x", 0, "made a!1 2\n"),
+        ("cfs dump v 0 0 --bytes 37", b"", 1, "refused too-long 38\n"),
+        ("cfs dump v 0 0 --bytes 38", b"", 0, FIRST),
+        ("cfs dump v 0 0 --bytes 51", b"", 0, FIRST),
+        ("cfs dump v 0 0 --bytes 52", b"", 0, BOTH),
+        ("cfs dump v 4 1 --bytes 38", b"", 0, SECOND),
+        ("cfs dump v 5 1 --bytes 24", b"", 0, END),
+        (
+            "cfs dump v 0 0 --bytes z",
+            b"",
+            2,
+            "bad line 0: bad number\n",
+        ),
     ];
     assert_eq!(rt; wrong_on(rt.alloc(), FORMAT, &rows)?, None);
     Ok(())
