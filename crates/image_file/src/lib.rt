@@ -25,7 +25,8 @@
 //! - a write directly behind the last one goes on with its run, and syncs nothing; the system is given 64 slots as the
 //!   next one comes, and those that wait where memory for more is refused;
 //! - a write elsewhere first gives the system what waits and syncs the run, where there is one, and begins another;
-//! - `sync`, `healing`, `settle` and `attach` do the same, and begin none: behind an Ok of them nothing waits;
+//! - `sync`, `extend`, `healing`, `settle` and `attach` do the same, and begin none: behind an Ok of them nothing waits;
+//! - an `extend` then cuts the file behind its last slot, lets it grow by slots of zeros, and syncs that as well;
 //! - an attach also syncs the image that it has found or made: a run of the program that was killed may have written it;
 //! - `read` syncs nothing; where it asks the file, the system is first given what waits, so that the file has all that
 //!   was written;
