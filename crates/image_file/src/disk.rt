@@ -50,7 +50,7 @@ impl Drop for Disk {
 }
 
 impl Disk {
-    ghost use Rattle.std.specs.Prelude.{◌⊎◌, ◌+◌, ◌<◌, ◌≤◌, ◌/◌, ◌^◌, length, IfOk, OnOk, OnErr};
+    ghost use Rattle.std.specs.Prelude.{◌⊎◌, ◌+◌, ◌<◌, ◌≤◌, ◌/◌, ◌^◌, length, max, IfOk, OnOk, OnErr};
     ghost use Rattle.sector_disk.specs.Machine.{GivesAsked};
     ghost use Rattle.image_file.specs.Ahead.{AreApart, HasNone};
     ghost use Rattle.image_file.specs.Standing.{goes_on, run_from};
@@ -131,6 +131,24 @@ impl Disk {
         self.go_on(sector, bytes)
     }
 
+    /// Gives an image with so many sectors as are told as many as are asked for, where these are more. Nothing that was
+    /// read ahead is given then. All that was written is brought to the disk before the file grows, and its new slots are
+    /// brought there behind that.
+    pub(crate) fn extend(&mut self, told: u32, asked: u32) -> io::Result<()>
+        ensures ahead { HasNone self.new.ahead }
+        ensures synced { OnOk result (IsSyncedDisk self.new) }
+        ensures broken { FailsOnDisk self.old self.new result }
+    {
+        if self.turn().is_err() {
+            return Err(ErrorKind::Other.into());
+        }
+        self.widen(told, asked)?;
+        if self.bring().is_err() {
+            return Err(ErrorKind::Other.into());
+        }
+        Ok(())
+    }
+
     /// A window begins or ends: all that was written is brought to the disk, and nothing that was read before is given
     /// in it.
     pub(crate) fn turn(&mut self) -> Result<(), u32>
@@ -194,6 +212,22 @@ impl Disk {
             self.standing = Standing::Broken(self.standing.first());
         }
         written
+    }
+
+    // Has the file grow behind its last slot. Its new slots are a run that is not on the disk then, also where it fails and
+    // may have some of them.
+    fn widen(&mut self, told: u32, asked: u32) -> io::Result<()>
+        requires { IsSyncedDisk self.old }
+        ensures ahead { self.new.ahead ≡ self.old.ahead }
+        ensures run { OnOk result (HasRun told (max told asked) self.new) }
+        ensures failed { OnErr result (IsSyncedDisk self.new ⊎ HasRun told (max told asked) self.new) }
+    {
+        let Some(image) = &self.image else {
+            return Err(ErrorKind::NotConnected.into());
+        };
+        let next = u64::from(told.max(asked));
+        self.standing = Standing::Unsynced { first: told, next };
+        image.widen(told, asked)
     }
 
     // Lets go of the image, all of which is on the disk.

@@ -124,6 +124,16 @@ impl<R: Files<File = File> + Input + Print + AllocGlobal + Drop> Machine for Fil
         }
     }
 
+    fn extend(&mut self, sectors: u32) -> Result<(), Failed> {
+        match self.disk.extend(self.sectors, sectors) {
+            Ok(()) => {
+                self.sectors = self.sectors.max(sectors);
+                Ok(())
+            }
+            Err(_) => Err(self.disk_fault(0)),
+        }
+    }
+
     fn healing(&mut self, _longest: u32) -> Result<(), Failed> {
         match self.disk.turn() {
             Ok(()) => Ok(()),

@@ -112,6 +112,16 @@ impl ImageFile {
         self.sync()
     }
 
+    /// Puts slots of zeros behind those that are told, up to as many as are asked for. What followed the last one is gone
+    /// then. Where there are as many already, nothing is changed.
+    pub(crate) fn widen(&self, told: u32, asked: u32) -> io::Result<()> {
+        if asked <= told {
+            return Ok(());
+        }
+        self.file.set_len(start_of(told))?;
+        self.file.set_len(start_of(asked))
+    }
+
     /// Reads slots from that of a sector on.
     pub(crate) fn read(&self, sector: u32, slots: &mut [u8]) -> io::Result<()> {
         self.file.read_exact_at(slots, start_of(sector))

@@ -25,7 +25,10 @@
 //! - a write directly behind the last one goes on with its run, and syncs nothing; the system is given 64 slots as the
 //!   next one comes, and those that wait where memory for more is refused;
 //! - a write elsewhere first gives the system what waits and syncs the run, where there is one, and begins another;
-//! - `sync`, `healing`, `settle` and `attach` do the same, and begin none: behind an Ok of them nothing waits;
+//! - `sync`, `extend`, `healing`, `settle` and `attach` do the same, and begin none: behind an Ok of them nothing waits;
+//! - an `extend` then cuts the file behind the last slot that was told, so that no bytes behind it become a part of one,
+//!   lets it grow by slots of zeros, and syncs that as well; its new slots are a run that may not be there, also where the
+//!   file did not grow so far, and a later call syncs them;
 //! - an attach also syncs the image that it has found or made: a run of the program that was killed may have written it;
 //! - `read` syncs nothing; where it asks the file, the system is first given what waits, so that the file has all that
 //!   was written;
@@ -45,22 +48,23 @@
 //!
 //! **Read ahead.** A read of a sector whose slot is not in memory reads a block of 64 slots at once, and up to 80 such
 //! blocks are kept, of which the least recently used one gives way; reads of these ask the file no more, until one of their
-//! sectors is written, or a window begins or ends (`attach`, `healing`, `settle`). A block that the file does not give
-//! whole is not kept. A sector that has become damaged meanwhile is read as such later in the same window, so what an
-//! honest disk does is what an honest machine may do.
+//! sectors is written, the image grows (`extend`), or a window begins or ends (`attach`, `healing`, `settle`). A block that
+//! the file does not give whole is not kept. A sector that has become damaged meanwhile is read as such later in the same
+//! window, so what an honest disk does is what an honest machine may do.
 //!
 //! **Memory** is taken for blocks and for what waits, 2.7 MB at most. Where it is refused a sector is read or written by
 //! a call of its own, and no call fails for that.
 //!
 //! **What is trusted.** `FileMachine` meets the contract of `Machine` and tells nothing of content: no contract can say
 //! what a file, a disk or a terminal gives or takes. That slots are spelled and read as they should be is proved, and
-//! of the disk inside this crate what it tells as synced: all behind an Ok of `sync`, `healing`, `settle` and `attach`,
-//! with nothing that waits, and all but one run behind a write; that what waits lies in that run and ends where it does, each
-//! slot of a write in its own place, as it is spelled; that a sector that waits is read from there, and no block that is
-//! read ahead has one; and that it fails each call once a sync has failed or a run was not taken, a sync with the first
-//! sector of that run. That it tells so only where the system has synced (`Disk::bring`, which an attach calls too) and was
-//! given what waits (`Stretch::write_out`), that each slot of a write waits or is given (`pending::extend`), and that each
-//! call of the machine is one of the disk, is seen in the code.
+//! of the disk inside this crate what it tells as synced: all behind an Ok of `sync`, `extend`, `healing`, `settle` and
+//! `attach`, with nothing that waits, and all but one run behind a write; that what waits lies in that run and ends where it
+//! does, each slot of a write in its own place, as it is spelled; that a sector that waits is read from there, and no block
+//! that is read ahead has one; and that it fails each call once a sync has failed or a run was not taken, a sync with the
+//! first sector of that run. That it tells so only where the system has synced (`Disk::bring`, which an attach calls too)
+//! and was given what waits (`Stretch::write_out`), that each slot of a write waits or is given (`pending::extend`), that a
+//! file grows by as many slots as are asked for (`ImageFile::widen`), and that each call of the machine is one of the disk,
+//! is seen in the code.
 //!
 //! These are taken on trust, and tried on a real file by the tests:
 //! - each slot is read and written in its own place;
@@ -72,7 +76,8 @@
 //!   order, and none that the system has been given is lost where the program alone is stopped;
 //! - a write that fails or is stopped has put some first slots of it, and a run that a power failure cuts some first slots
 //!   of the run; no more of them are damaged, a torn one among them, than the open windows allow;
-//! - a file that grows, is written behind its end and cut back to its length has the bytes that it had;
+//! - a file that grows, is written behind its end and cut back to its length has the bytes that it had; one that is cut
+//!   and grows has those in front of the cut, and zeros from there on;
 //! - a file that is opened gets a number that is free, and one that stays open keeps it;
 //! - the input's bytes come and the console's go in order.
 #![tactic(auto)]

@@ -9,7 +9,7 @@ use Rattle.sector_disk.specs.declared.machine.Attach.{Attach}
 use Rattle.sector_disk.specs.declared.machine.Attach.TheVariants.{Old, New}
 use Rattle.memory_machine.specs.declared.past.Step.{Step}
 use Rattle.memory_machine.specs.declared.past.Work.{Work}
-use Rattle.memory_machine.specs.declared.past.Work.TheVariants.{Attaching, Writing, Saying, Syncing, Quiet}
+use Rattle.memory_machine.specs.declared.past.Work.TheVariants.{Attaching, Writing, Extending, Saying, Syncing, Quiet}
 use Rattle.memory_machine.specs.declared.memory.MemoryMachine.{MemoryMachine}
 use Rattle.sector_disk.specs.Image.{sector_at, IsWorn, weak}
 use Rattle.sector_disk.specs.Machine.{Elapses, Wears, Before, Attaches, Finds, Makes, IsSynced, asked_for}
@@ -127,6 +127,7 @@ opening_fails _ text how old new is (inl refused) = refused_opening text how old
 opening_fails (Attaching path asked image) text how old new is (inr noted) =
     subst (λ (b : List ℕ). NotOpened b how old new) is.0 (subst (λ (a : Attach). NotOpened path.items a old new) is.1 (noted_unopened path asked image old new noted.0 is.2))
 opening_fails (Writing first bytes olds done) text how old new is (inr noted) = absurd is
+opening_fails (Extending had limit) text how old new is (inr noted) = absurd is
 opening_fails (Saying bytes) text how old new is (inr noted) = absurd is
 opening_fails (Syncing done) text how old new is (inr noted) = absurd is
 opening_fails Quiet text how old new is (inr noted) = absurd is
@@ -141,6 +142,7 @@ opened_old (Attaching path asked image) text count sync old new now is noted siz
     let opened = noted_opened path asked image old new end noted back refl syncs count refl (omega (arith, now)) size (λ h. subst (λ (a : Attach). Attaches a (memory_now old) (memory_now end)) (sym is.1) (attaches h)) in
     subst (λ (b : List ℕ). Opened b Old count old end) is.0 (subst (λ (a : Attach). Opened path.items a count old end) is.1 opened)
 opened_old (Writing first bytes olds done) text count sync old new now is noted size = absurd is
+opened_old (Extending had limit) text count sync old new now is noted size = absurd is
 opened_old (Saying bytes) text count sync old new now is noted size = absurd is
 opened_old (Syncing done) text count sync old new now is noted size = absurd is
 opened_old Quiet text count sync old new now is noted size = absurd is
@@ -156,6 +158,7 @@ opened_new (Attaching path asked image) text count sync fresh old new now is is_
     let opened = noted_opened path asked image old new end noted back refl syncs count refl (omega (arith, now)) size (λ h. subst (λ (a : Attach). Attaches a (memory_now old) (memory_now end)) (sym is.1) attaches) in
     subst (λ (b : List ℕ). Opened b (New count) count old end) is.0 (subst (λ (a : Attach). Opened path.items a count old end) is.1 opened)
 opened_new (Writing first bytes olds done) text count sync fresh old new now is is_fresh noted small = absurd is
+opened_new (Extending had limit) text count sync fresh old new now is is_fresh noted small = absurd is
 opened_new (Saying bytes) text count sync fresh old new now is is_fresh noted small = absurd is
 opened_new (Syncing done) text count sync fresh old new now is is_fresh noted small = absurd is
 opened_new Quiet text count sync fresh old new now is is_fresh noted small = absurd is

@@ -13,7 +13,7 @@ use Rattle.sector_disk.specs.declared.machine.Attach.TheVariants.{Old, New}
 use Rattle.sector_disk.specs.declared.machine.Failed.{Failed}
 use Rattle.memory_machine.specs.declared.past.Step.{Step}
 use Rattle.memory_machine.specs.declared.past.Work.{Work}
-use Rattle.memory_machine.specs.declared.past.Work.TheVariants.{Attaching, Writing, Saying, Syncing, Quiet}
+use Rattle.memory_machine.specs.declared.past.Work.TheVariants.{Attaching, Writing, Extending, Saying, Syncing, Quiet}
 use Rattle.memory_machine.specs.declared.event.Event.{Event}
 use Rattle.memory_machine.specs.declared.event.Event.TheVariants.{FailCall, FailIn, Stop, StopIn, HurtAt, Pieces}
 use Rattle.memory_machine.specs.declared.event.Write.{Write}
@@ -111,7 +111,7 @@ add_none : (n : ℕ) → n + 0 ≡ n
 add_none n = omega arith
 
 -- a call that neither asks nor writes
-plain : (settle : Bool) (s : DiskState) → record (noted settle s) { ledger = record { input = s.ledger.input; attaches = s.ledger.attaches ++ []; written = s.ledger.written + 0; syncs = s.ledger.syncs + 0 }; begun = λ first. s.begun first + 0 } ≡ noted settle s
+pub plain : (settle : Bool) (s : DiskState) → record (noted settle s) { ledger = record { input = s.ledger.input; attaches = s.ledger.attaches ++ []; written = s.ledger.written + 0; syncs = s.ledger.syncs + 0 }; begun = λ first. s.begun first + 0 } ≡ noted settle s
 plain settle s = λ i. record (noted settle s) {
   ledger = record { input = s.ledger.input; attaches = append-nil s.ledger.attaches i; written = add_none s.ledger.written i; syncs = add_none s.ledger.syncs i };
   begun = λ first. add_none (s.begun first) i;
@@ -190,6 +190,7 @@ asking (Attaching path asks kept) image text how s is = λ i. record (noted fals
   begun = λ first. add_none (s.begun first) i;
 }
 asking (Writing first bytes olds done) image text how s is = absurd is
+asking (Extending had limit) image text how s is = absurd is
 asking (Saying bytes) image text how s is = absurd is
 asking (Syncing done) image text how s is = absurd is
 asking Quiet image text how s is = absurd is
@@ -236,6 +237,7 @@ writing (Writing from copy olds did) image first text some done stops s is = λ 
     counted true = refl
     counted false = λ i. record s.ledger { written = add_none s.ledger.written i }
 writing (Attaching path asks kept) image first text some done stops s is = absurd is
+writing (Extending had limit) image first text some done stops s is = absurd is
 writing (Saying bytes) image first text some done stops s is = absurd is
 writing (Syncing is_done) image first text some done stops s is = absurd is
 writing Quiet image first text some done stops s is = absurd is

@@ -7,7 +7,7 @@ use Rattle.sector_disk.specs.declared.sector.Sector.{Sector}
 use Rattle.sector_disk.specs.declared.sector.Sector.TheVariants.{Damaged}
 use Rattle.memory_machine.specs.declared.past.Step.{Step}
 use Rattle.memory_machine.specs.declared.past.Work.{Work}
-use Rattle.memory_machine.specs.declared.past.Work.TheVariants.{Attaching, Writing, Saying, Syncing, Quiet}
+use Rattle.memory_machine.specs.declared.past.Work.TheVariants.{Attaching, Writing, Extending, Saying, Syncing, Quiet}
 use Rattle.memory_machine.specs.declared.memory.MemoryMachine.{MemoryMachine}
 use Rattle.sector_disk.specs.Image.{sector_at, stand, outside, IsWorn, weak}
 use Rattle.sector_disk.specs.Machine.{Tears, Writes, wrote}
@@ -143,6 +143,7 @@ module _ (first : ℕ) (copy : Vec ℕ Global) (olds : Vec Sector Global) (done 
 pub stood_by : (work : Work) (sector : ℕ) (text : List ℕ) (stood : ℕ) (done : Bool) (old new end : MemoryMachine) → IsWriting old.image.items sector text stood done work → Notes false work old new → stood ≤ length text / 512 → sector + length text / 512 ≤ length old.image.items
     → end.image.items ≡ stand new.image.items sector text stood → end ≡ record new { image = end.image; written = end.written; waiting = end.waiting; stopped = end.stopped } → (IsTrue done → stood ≡ length text / 512) → Stood sector text done old end
 stood_by (Attaching path how image) sector text stood done old new end is noted some room image_is rest all = absurd is
+stood_by (Extending had limit) sector text stood done old new end is noted some room image_is rest all = absurd is
 stood_by (Saying bytes) sector text stood done old new end is noted some room image_is rest all = absurd is
 stood_by (Syncing is_done) sector text stood done old new end is noted some room image_is rest all = absurd is
 stood_by Quiet sector text stood done old new end is noted some room image_is rest all = absurd is

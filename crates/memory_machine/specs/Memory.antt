@@ -1,5 +1,5 @@
 -- A machine in memory as the layers above see it, and what one call notes.
-use Rattle.std.specs.Prelude.{◌≡◌, ◌⊎◌, ◌<◌, ◌≤◌, IsTrue, ℕ, ◌-◌, ◌/◌, ◌^◌, Bool, true, false, ◌&&◌, if◌then◌else◌, List, [], ◌∷◌, ◌++◌, length, take, drop, min, replicate, count_by, Option, None, Some, IfSome, Vec}
+use Rattle.std.specs.Prelude.{◌≡◌, ◌⊎◌, ◌<◌, ◌≤◌, IsTrue, ℕ, ◌-◌, ◌/◌, ◌^◌, Bool, true, false, ◌&&◌, if◌then◌else◌, List, [], ◌∷◌, ◌++◌, length, take, drop, min, max, replicate, count_by, Option, None, Some, IfSome, Vec}
 use Rattle.std.proofs.Common.{arith}
 use Rattle.std.proofs.lemmas.Bool.{cond_both, and_parts, leb-true}
 use Rattle.std.specs.declared.alloc.Global.{Global}
@@ -17,7 +17,7 @@ use Rattle.sector_disk.specs.Image.{Windows, longest_run, IsShort, AreShort}
 use Rattle.memory_machine.specs.Windows.{is_short, all_weak}
 use Rattle.memory_machine.specs.State.{DiskState, Line, Faults, call_goes, one_more}
 use Rattle.memory_machine.specs.Past.{LeftSince, begins_at, due, hurt_all, attaches_in, written_in, syncs_in}
-use Rattle.sector_disk.specs.Machine.{Report, Moment, Ledger, Elapses, Reaches, Utters, Says, Tears, Writes, wrote, synced_once, Wears, Before, Attaches, IsSynced, asked_for, Trusts}
+use Rattle.sector_disk.specs.Machine.{Report, Moment, Ledger, Elapses, Reaches, Utters, Says, Tears, Writes, wrote, synced_once, Wears, Extends, Grows, Before, Attaches, IsSynced, asked_for, Trusts}
 
 abbrev pub memory_report : MemoryMachine → Report
 memory_report m = record {
@@ -199,6 +199,18 @@ pub record Flushed (finished : Bool) (old new : MemoryMachine) : Type 0 where
   pub uncounted : finished ≡ false → memory_ledger new ≡ memory_ledger old
   pub synced : IsTrue finished → IsSynced (memory_now new)
   pub reached : IsTrue finished → Reached Wears old new
+
+-- The image has so many sectors at least, behind a sync, or a call that isn't done has changed nothing but wear.
+pub record Widened (count : ℕ) (finished : Bool) (old new : MemoryMachine) : Type 0 where
+  pub sectors : IsTrue finished → (memory_report new).sectors ≡ max (memory_report old).sectors count
+  pub sectors_err : finished ≡ false → (memory_report new).sectors ≡ (memory_report old).sectors
+  pub honest : IsHonest new → IsHonest old
+  pub extends : IsTrue finished → IsHonest new → Extends count (memory_now old) (memory_now new)
+  pub grows : IsHonest new → Grows count (memory_now old) (memory_now new)
+  pub synced : IsTrue finished → IsSynced (memory_now new)
+  pub ledger : memory_ledger new ≡ memory_ledger old
+  pub time : IsHonest new → Elapses (length old.past.items) (length new.past.items) (LeftSince (memory_now old) old.past.items) (LeftSince (memory_now new) new.past.items) (Grows count (memory_now old))
+  pub reached : IsTrue finished → Reached (Grows count) old new
 
 -- An image is found or made, and so many sectors are told.
 pub record Opened (path : List ℕ) (how : Attach) (count : ℕ) (old new : MemoryMachine) : Type 0 where

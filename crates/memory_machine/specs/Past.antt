@@ -12,10 +12,10 @@ use Rattle.memory_machine.specs.declared.event.Event.{Event}
 use Rattle.memory_machine.specs.declared.past.Hurt.{Hurt}
 use Rattle.memory_machine.specs.declared.past.Step.{Step}
 use Rattle.memory_machine.specs.declared.past.Work.{Work}
-use Rattle.memory_machine.specs.declared.past.Work.TheVariants.{Attaching, Writing, Saying, Syncing, Quiet}
+use Rattle.memory_machine.specs.declared.past.Work.TheVariants.{Attaching, Writing, Extending, Saying, Syncing, Quiet}
 use Rattle.sector_disk.specs.Image.{sector_at, lay}
 use Rattle.memory_machine.specs.Events.{hurt_by}
-use Rattle.sector_disk.specs.Machine.{Moment, Asked, Wears, Tears, Utters}
+use Rattle.sector_disk.specs.Machine.{Moment, Asked, Wears, Tears, Grows, Utters}
 
 -- the hurt of a sector, with what it is in an image
 abbrev pub hurt_in : List Sector → Option ℕ → Option Hurt
@@ -45,6 +45,7 @@ unattached (New count) kept now = kept
 abbrev pub undone : Work → List Sector → List Sector
 undone (Attaching path how kept) now = unattached how kept.items now
 undone (Writing first bytes old done) now = lay now first (λ k. sector_at old.items k) (length old.items)
+undone (Extending had count) now = take had now
 undone (Saying bytes) now = now
 undone (Syncing done) now = now
 undone Quiet now = now
@@ -63,6 +64,7 @@ before step now = record {
 abbrev pub During : Work → Moment → Moment → Type 0
 During (Attaching path how image) at left = Wears at left
 During (Writing first bytes old done) at left = Tears first bytes.items at left
+During (Extending had count) at left = Grows count at left
 During (Saying bytes) at left = Utters bytes.items at left
 During (Syncing done) at left = Wears at left
 During Quiet at left = Wears at left

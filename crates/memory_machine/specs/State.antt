@@ -8,7 +8,7 @@ use Rattle.sector_disk.specs.declared.machine.Attach.{Attach}
 use Rattle.sector_disk.specs.declared.machine.Attach.TheVariants.{Old, New}
 use Rattle.memory_machine.specs.declared.event.Event.{Event}
 use Rattle.memory_machine.specs.declared.event.Verdict.{Verdict}
-use Rattle.sector_disk.specs.Image.{stand, settled}
+use Rattle.sector_disk.specs.Image.{stand, settled, extended}
 use Rattle.memory_machine.specs.Windows.{is_short, all_weak, weak_run_at}
 use Rattle.memory_machine.specs.Events.{verdict_of, fails_call, piece_of, stood_by, is_going, is_stop}
 use Rattle.memory_machine.specs.Past.{due, hurt_all}
@@ -121,6 +121,10 @@ put_by verdict first bytes = put_sectors first bytes (stood_by verdict (length b
 -- all that was written is brought to the disk, by a sync that is counted
 abbrev pub flushed : DiskState → DiskState
 flushed s = record s { now = record s.now { synced = s.calls }; ledger = synced_once s.ledger; waiting = None }
+
+-- the image has so many sectors at least, behind a sync
+abbrev pub grown : (count : ℕ) → DiskState → DiskState
+grown count s = record s { now = record s.now { image = extended count s.now.image; synced = s.calls }; waiting = None }
 
 -- the next run is named, behind a sync
 abbrev pub healed : (longest : ℕ) → DiskState → DiskState

@@ -14,7 +14,7 @@ pub enum When {
 
 /// What is to happen to a machine in memory.
 ///
-/// Everything is counted from 1, and from the start of the run: the first call is call 1, whichever of the eight it is,
+/// Everything is counted from 1, and from the start of the run: the first call is call 1, whichever of the nine it is,
 /// and the first write at a sector is the first of all writes that begin there, whatever became of it. Calls that are
 /// refused memory or come after a stop are not counted. Just before a call its hurts come, then the first event of the
 /// list that says something of the call decides. An event whose number is 0 never comes.

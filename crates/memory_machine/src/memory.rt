@@ -1,13 +1,13 @@
 //! The outside in memory. It keeps a record of its calls, from which the moments since an earlier one are read.
-ghost use Rattle.std.specs.Prelude.{◌≡◌, true, false, is_ok, is_some, slice_index, slice_get, map, if◌then◌else◌, ◌+◌, ◌-◌, ◌/◌, ◌^◌, ◌<◌, ◌≤◌, ◌++◌, min, IsTrue, ◌&&◌, length, IfOk, IfSome, IfNone, OnOk, OnErr};
+ghost use Rattle.std.specs.Prelude.{◌≡◌, true, false, is_ok, is_some, slice_index, slice_get, map, replicate, if◌then◌else◌, ◌+◌, ◌-◌, ◌/◌, ◌^◌, ◌<◌, ◌≤◌, ◌++◌, min, IsTrue, ◌&&◌, length, IfOk, IfSome, IfNone, OnOk, OnErr};
 ghost use Rattle.std.specs.List.{list_any};
 ghost use Rattle.std.specs.Vec.{vec_len, vec_capacity};
 ghost use Rattle.sector_disk.specs.Machine.{GivesAsked, Wears};
 ghost use Rattle.memory_machine.specs.Events.{counts_at};
 ghost use Rattle.memory_machine.specs.Past.{due};
 ghost use Rattle.memory_machine.specs.Windows.{all_weak, is_short};
-ghost use Rattle.memory_machine.specs.State.{Exactly, Calls, Attached, write_verdict, call_goes, put_sectors, waits_behind, noted, flushed, same, spoken, from_first, one_more};
-ghost use Rattle.memory_machine.specs.Memory.{memory_now, memory_state, memory_begun, IsWriting, IsAttaching, IsFresh, Notes, Refuses, Fails, Passes, Reached, Spoken, Flushed, Stood, Opened, NotOpened, IsMade, pair_at, first_window, memory_honest, IsHonest, memory_starved, memory_line, has_short_runs};
+ghost use Rattle.memory_machine.specs.State.{Exactly, Calls, Attached, write_verdict, call_goes, put_sectors, waits_behind, noted, flushed, grown, same, spoken, from_first, one_more};
+ghost use Rattle.memory_machine.specs.Memory.{memory_now, memory_report, memory_state, memory_begun, IsWriting, IsAttaching, IsFresh, Notes, Refuses, Fails, Passes, Reached, Spoken, Flushed, Stood, Widened, Opened, NotOpened, IsMade, pair_at, first_window, memory_honest, IsHonest, memory_starved, memory_line, has_short_runs};
 
 mod calls;
 mod left;
@@ -188,6 +188,7 @@ impl MemoryMachine {
     fn note(&mut self, settle: bool, work: Work) -> Result<(), Failed>
         ensures ok { OnOk result (Notes settle work self.old self.new) }
         ensures err { OnErr result (Refuses self.old self.new) }
+        ensures room { vec_capacity self.new.image ≡ vec_capacity self.old.image }
     {
         if self.stopped {
             return Err(Failed { place: 0 });
@@ -222,6 +223,7 @@ impl MemoryMachine {
         ensures ok { OnOk result (Notes settle work self.old self.new) }
         ensures err { OnErr result (Fails settle work self.old self.new) }
         ensures goes { OnOk result (call_goes (memory_state self.old) ≡ true) }
+        ensures room { vec_capacity self.new.image ≡ vec_capacity self.old.image }
     {
         let fails = fails_at(&self.events, self.past.len() as u64);
         self.note(settle, work)?;
@@ -309,6 +311,31 @@ impl MemoryMachine {
         self.waiting = waits_behind(self.waiting, sector);
         self.stopped = stops;
         done
+    }
+
+    // Gives the image so many sectors at least, behind a sync, and tells whether it is done. Its caller counts its fault.
+    fn widen(&mut self, count: u32) -> bool
+        requires { 0 < (memory_report self.old).sectors }
+        ensures widened { Widened count result self.old self.new }
+        ensures exact { Calls false (grown count) same (memory_state self.old) (memory_state self.new) result }
+        ensures rest { self.new ≡ record self.old { image = self.new.image; past = self.new.past; honest = self.new.honest; synced = self.new.synced; waiting = self.new.waiting; starved = self.new.starved } }
+    {
+        if self.stopped {
+            return false;
+        }
+        let had = self.image.len();
+        let more = (count as usize).saturating_sub(had);
+        if self.image.reserve(more).is_err() {
+            self.starved = self.starved.saturating_add(1);
+            return false;
+        }
+        if self.call(false, Work::Extending { had, count }).is_err() {
+            return false;
+        }
+        put_behind(&mut self.image, more);
+        self.synced = self.past.len();
+        self.waiting = None;
+        true
     }
 
     // Finds or makes an image, and tells its number of sectors. Its caller counts its fault.
@@ -437,6 +464,16 @@ fn count_of(len: usize) -> u32
     ensures { result ≡ min len (2 ^ 32 - 1) }
 {
     len.min(u32::MAX as usize) as u32
+}
+
+// Puts so many damaged sectors behind the others, for which there is room.
+fn put_behind(image: &mut Vec<Sector>, more: usize)
+    requires { vec_len image.old + more ≤ vec_capacity image.old }
+    ensures { image.new.items ≡ image.old.items ++ replicate more Sector.Damaged }
+{
+    for _ in 0..more {
+        image.push_reserved(Sector::Damaged);
+    }
 }
 
 // Appends bytes, for which there is room.

@@ -29,6 +29,11 @@ pub enum Work {
         old: Vec<Sector>,
         done: bool,
     },
+    Extending {
+        // how many sectors there were, and how many there are to be at least
+        had: usize,
+        count: u32,
+    },
     Saying {
         bytes: Vec<u8>,
     },
@@ -91,6 +96,7 @@ impl Work {
                 old,
                 done: _,
             } => lay(image, first as usize, &old),
+            Work::Extending { had, count: _ } => image.truncate(had),
             _ => {}
         }
     }

@@ -4,7 +4,7 @@ use Rattle.std.specs.Prelude.{Result, Ok, Err, IsErrAnd}
 use Rattle.sector_disk.specs.declared.machine.Failed.{Failed}
 use Rattle.sector_disk.specs.declared.machine.Machine.{Ghosts}
 use Rattle.sector_disk.specs.Machine.{Before, DiskCause, Elapses, Ledger, LeavesOnly, Moment, OnlyWrites, Report, Trusts, UsesDisk, Wears}
-use Rattle.sector_disk.specs.Calls.{Counts, DiskFaults, HealsDisk, LeavesDisk, OnlyReads, Since, SparesDisk, WritesDisk, device_in, failed_at}
+use Rattle.sector_disk.specs.Calls.{Counts, DiskFaults, GrowsDisk, HealsDisk, LeavesDisk, OnlyReads, Since, SparesDisk, WritesDisk, device_in, failed_at}
 use Rattle.sector_disk.proofs.Holding.{trusts_on, wears_none, wears_on}
 use Rattle.sector_disk.proofs.Moments.{started, then_on, leaves_more}
 
@@ -93,6 +93,28 @@ module _ {D : Type 0} {M : Ghosts D} {a b c : D} where
         any_moment = λ h. moments_then M a b c P Q R (first_so (back h)) (then_so h) (first.any_moment (back h)) (second.any_moment h);
       }
 
+  -- two calls that may give the image more sectors
+  pub grows_then : {fault : Option ℕ} {P Q R : Moment → Moment → Type 0} → GrowsDisk M None P a b → GrowsDisk M fault Q b c
+      → (M.honest b → (left : Moment) → P (M.now a) left → R (M.now a) left) → (M.honest c → (left : Moment) → Q (M.now b) left → R (M.now a) left) → GrowsDisk M fault R a c
+  grows_then {fault = fault} {P = P} {Q = Q} {R = R} first second first_so then_so =
+      let back = second.trust.honest in record {
+        sectors = omega (arith, first.sectors, second.sectors);
+        uses = record {
+          sectors = refl;
+          disk = omega (arith, first.uses.disk, second.uses.disk);
+          input = second.uses.input ∙ first.uses.input;
+          output = second.uses.output ∙ first.uses.output;
+        };
+        faults = faults_then fault (M.report a) (M.report b) (M.report c) first.faults second.faults;
+        trust = trusts_on first.trust second.trust;
+        ledger = λ t. only_writes_then (M.ledger a) (M.ledger b) (M.ledger c) (first.ledger (second.trust.tells t)) (second.ledger t);
+        quiet = λ h. second.quiet h ∙ first.quiet (back h);
+        windows = λ h. second.windows h ∙ first.windows (back h);
+        exit = λ h. then_so h (M.now c) (second.exit h);
+        since = λ h. since_then M a b c (first.any_moment (back h)).later (first.since (back h)) (second.since h);
+        any_moment = λ h. moments_then M a b c P Q R (first_so (back h)) (then_so h) (first.any_moment (back h)) (second.any_moment h);
+      }
+
   -- two calls that turn the windows
   pub heals_then : {fault : Option ℕ} → HealsDisk M None a b → HealsDisk M fault b c → HealsDisk M fault a c
   heals_then {fault = fault} first second =
@@ -153,6 +175,21 @@ module _ {D : Type 0} {M : Ghosts D} {a b : D} where
     any_moment = λ h. leaves_more M.moment M.left_since a b (Wears (M.now a)) (R (M.now a)) (wears h) (r.any_moment h);
   }
 
+  -- a call that writes, as one that might have given the image more sectors
+  pub writes_as_grows : {fault : Option ℕ} {R : Moment → Moment → Type 0} → WritesDisk M fault R a b → GrowsDisk M fault R a b
+  writes_as_grows w = record {
+    sectors = omega (arith, w.uses.sectors);
+    uses = record { sectors = refl; disk = w.uses.disk; input = w.uses.input; output = w.uses.output };
+    faults = w.faults;
+    trust = w.trust;
+    ledger = w.ledger;
+    quiet = w.quiet;
+    windows = w.windows;
+    exit = w.exit;
+    since = w.since;
+    any_moment = w.any_moment;
+  }
+
   -- a call that writes, as one that might have turned the windows
   pub writes_as_heals : {fault : Option ℕ} {R : Moment → Moment → Type 0} → WritesDisk M fault R a b → HealsDisk M fault a b
   writes_as_heals w = record {
@@ -174,6 +211,9 @@ module _ {D : Type 0} {M : Ghosts D} {a b : D} where
 
   pub writes_told : {was is : Option ℕ} {R : Moment → Moment → Type 0} → is ≡ was → WritesDisk M was R a b → WritesDisk M is R a b
   writes_told {R = R} same w = subst (λ (fault : Option ℕ). WritesDisk M fault R a b) (sym same) w
+
+  pub grows_told : {was is : Option ℕ} {R : Moment → Moment → Type 0} → is ≡ was → GrowsDisk M was R a b → GrowsDisk M is R a b
+  grows_told {R = R} same g = subst (λ (fault : Option ℕ). GrowsDisk M fault R a b) (sym same) g
 
   pub heals_told : {was is : Option ℕ} → is ≡ was → HealsDisk M was a b → HealsDisk M is a b
   heals_told same w = subst (λ (fault : Option ℕ). HealsDisk M fault a b) (sym same) w

@@ -90,6 +90,19 @@ pub record WritesDisk {D : Type 0} (M : Ghosts D) (fault : Option ℕ) (R : Mome
   pub since : M.honest new → Since M old new
   pub any_moment : M.honest new → LeavesOnly M.moment M.left_since old new (R (M.now old))
 
+-- A call that writes the disk and may give the image more sectors, and of which a stop leaves this.
+pub record GrowsDisk {D : Type 0} (M : Ghosts D) (fault : Option ℕ) (R : Moment → Moment → Type 0) (old new : D) : Type 0 where
+  pub sectors : (M.report old).sectors ≤ (M.report new).sectors
+  pub uses : UsesDisk (record (M.report old) { sectors = (M.report new).sectors }) (M.report new)
+  pub faults : DiskFaults fault (M.report old) (M.report new)
+  pub trust : Trusts (M.tells old) (M.tells new) (M.honest old) (M.honest new)
+  pub ledger : M.tells new → OnlyWrites (M.ledger old) (M.ledger new)
+  pub quiet : M.honest new → (M.now new).said ≡ (M.now old).said
+  pub windows : M.honest new → (M.now new).windows ≡ (M.now old).windows
+  pub exit : M.honest new → R (M.now old) (M.now new)
+  pub since : M.honest new → Since M old new
+  pub any_moment : M.honest new → LeavesOnly M.moment M.left_since old new (R (M.now old))
+
 -- A call that writes the disk and turns its windows.
 pub record HealsDisk {D : Type 0} (M : Ghosts D) (fault : Option ℕ) (old new : D) : Type 0 where
   pub uses : UsesDisk (M.report old) (M.report new)

@@ -1,8 +1,8 @@
-//! One read of a sector and one write of whole sectors, which say what any call keeps.
-ghost use Rattle.std.specs.Prelude.{◌≡◌, ◌<◌, ◌≤◌, ◌+◌, ◌/◌, ◌%◌, length, Ok, IfErr, IfOk, OnOk, OnErr};
+//! One read of a sector, one write of whole sectors and one growth of the image, which say what any call keeps.
+ghost use Rattle.std.specs.Prelude.{◌≡◌, ◌<◌, ◌≤◌, ◌+◌, ◌/◌, ◌%◌, length, max, Ok, IfErr, IfOk, OnOk, OnErr};
 ghost use Rattle.sector_disk.specs.Image.{sector_at, stand};
-ghost use Rattle.sector_disk.specs.Machine.{Holds, Shows, Tears, Writes, wrote};
-ghost use Rattle.sector_disk.specs.Calls.{OnlyReads, WritesDisk, as_sector, device_in, failed_at};
+ghost use Rattle.sector_disk.specs.Machine.{Extends, Grows, Holds, IsSynced, Shows, Tears, Writes, wrote};
+ghost use Rattle.sector_disk.specs.Calls.{GrowsDisk, OnlyReads, WritesDisk, as_sector, device_in, failed_at};
 
 use crate::{Failed, Machine, Seen};
 
@@ -45,4 +45,18 @@ pub fn write_sectors<M: Machine>(m: &mut M, place: u32, bytes: &[u8]) -> Result<
     ensures done { OnOk result (M.honest m.new → Holds (M.now m.old) (stand (M.now m.old).image place bytes.now (length bytes.now / 512)) (M.now m.new)) }
 {
     m.write(place, bytes)
+}
+
+/// Gives the image so many sectors at least, behind a sync.
+pub fn extend_image<M: Machine>(m: &mut M, sectors: u32) -> Result<(), Failed>
+    requires { 0 < (M.report m.old).sectors }
+
+    ensures grows { GrowsDisk M.Machine (device_in failed_at result) (Grows sectors) m.old m.new }
+    ensures place { IfErr result (λ failed. failed.place ≡ 0) }
+    ensures sectors { OnOk result ((M.report m.new).sectors ≡ max (M.report m.old).sectors sectors) }
+    ensures ledger { M.tells m.new → M.ledger m.new ≡ M.ledger m.old }
+    ensures synced { OnOk result (M.honest m.new → IsSynced (M.now m.new)) }
+    ensures done { OnOk result (M.honest m.new → Extends sectors (M.now m.old) (M.now m.new)) }
+{
+    m.extend(sectors)
 }

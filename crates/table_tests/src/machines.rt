@@ -2,7 +2,7 @@
 ghost use Rattle.std.specs.Prelude.{◌≤◌};
 
 use memory_machine::{Event, MemoryMachine, When};
-use sector_disk::{Attach, Failed, Machine, Sector};
+use sector_disk::{Attach, Failed, Machine, Sector, Seen};
 use std::alloc::{AllocError, Global};
 use std::test::Fail;
 
@@ -120,6 +120,85 @@ fn events_come_where_they_say(rt: HostRuntime) -> Result<(), Fail> {
         assert_eq!(rt; tried(&mut m)?, (writes, takes));
         assert_eq!(rt; m.honest(), honest);
         assert_eq!(rt; m.image(), end.as_slice());
+    }
+    Ok(())
+}
+
+// Both sectors are written, the image grows to four, and the last one is read and written: what the read sees, and whether
+// the last write answers Ok.
+fn grown<M: Machine>(m: &mut M) -> Result<(Seen, bool), Failed>
+    requires { 2 ≤ (M.report m.old).sectors }
+{
+    let _writes = m.write(0, &repeated::<1024>(7));
+    m.extend(1)?;
+    m.extend(4)?;
+    let seen = m.read(3, &mut [0; 512])?;
+    let writes = m.write(3, &repeated::<512>(8)).is_ok();
+    Ok((seen, writes))
+}
+
+const FAILED: Result<(Seen, bool), Failed> = Err(Failed { place: 0 });
+
+// What is to happen; what of the growth comes then, what stands at the end, and what a stop leaves there that loses all
+// that it may.
+const GROWTHS: [(
+    Event,
+    Result<(Seen, bool), Failed>,
+    &'static [Sector],
+    &'static [Sector],
+); 6] = [
+    (
+        Event::Pieces { most: 2 },
+        Ok((Seen::Damaged, true)),
+        &[OLD, OLD, HURT, NEW],
+        &[OLD, OLD, HURT, HURT],
+    ),
+    (
+        Event::FailCall { call: 3, stand: 1 },
+        FAILED,
+        &[OLD, OLD],
+        &[HURT, HURT],
+    ),
+    (
+        Event::FailCall { call: 4, stand: 1 },
+        FAILED,
+        &[OLD, OLD],
+        &[OLD, OLD],
+    ),
+    (
+        Event::Stop { after: 1 },
+        FAILED,
+        &[OLD, HURT],
+        &[HURT, HURT],
+    ),
+    (
+        Event::Stop { after: 2 },
+        Ok((Seen::Damaged, false)),
+        &[OLD, OLD, HURT, HURT],
+        &[OLD, OLD, HURT, HURT],
+    ),
+    (
+        Event::HurtAt {
+            sector: 1,
+            when: When::Call(4),
+        },
+        Ok((Seen::Damaged, true)),
+        &[OLD, HURT, HURT, NEW],
+        &[OLD, HURT, HURT, HURT],
+    ),
+];
+
+#[test]
+fn an_image_grows_or_stays(rt: HostRuntime) -> Result<(), Fail> {
+    for (event, answer, end, left) in GROWTHS {
+        let mut m = with_event(rt.alloc(), event)?;
+        let sectors = m.attach("v", Attach::Old)?;
+        assert!(rt; sectors >= 2);
+        assert_eq!(rt; grown(&mut m), answer);
+        assert!(rt; m.honest());
+        assert_eq!(rt; m.image(), end);
+        let after = m.left_behind(9, Vec::new(rt.alloc()), Vec::new(rt.alloc()));
+        assert_eq!(rt; after.image(), left);
     }
     Ok(())
 }

@@ -14,6 +14,8 @@ const SHARED: &str = "image_file_test_shared";
 
 const RENEWED: &str = "image_file_test_renewed";
 
+const GROWN: &str = "image_file_test_grown";
+
 // The bytes of a sector: a first one, and then all others alike.
 fn filled(first: u8, rest: u8) -> [u8; 512] {
     let mut bytes = [rest; 512];
@@ -177,5 +179,60 @@ fn a_new_image_has_nothing_of_the_old_one(rt: HostRuntime) -> Result<(), Fail> {
         renew(&rt, &mut m, sectors)?;
     }
     fs::remove_file(&rt, RENEWED)?;
+    Ok(())
+}
+
+// An image of four sectors, one of which is written and two are read, and then of seven, the last of which is written too.
+fn grow<M: Machine>(rt: &impl Abort, m: &mut M) -> Result<(), Failed> {
+    let sectors = m.attach(GROWN, Attach::New(4))?;
+    assert!(rt; sectors > 3);
+    m.write(3, &repeated::<512>(5))?;
+    let mut buf = [0; 512];
+    assert_eq!(rt; m.read(2, &mut buf), Ok(Seen::Damaged));
+    m.extend(2)?;
+    m.extend(7)?;
+    assert_eq!(rt; m.read(3, &mut buf), Ok(Seen::Whole));
+    assert_eq!(rt; buf, [5; 512]);
+    assert_eq!(rt; m.read(6, &mut buf), Ok(Seen::Damaged));
+    m.write(6, &repeated::<512>(6))?;
+    assert_eq!(rt; m.read(6, &mut buf), Ok(Seen::Whole));
+    m.sync()
+}
+
+// A sector of that image, and what it reads as.
+const GROWN_READS: [(u32, Seen, u8); 5] = [
+    (2, Seen::Damaged, 0),
+    (3, Seen::Whole, 5),
+    (4, Seen::Damaged, 0),
+    (5, Seen::Damaged, 0),
+    (6, Seen::Whole, 6),
+];
+
+// The file has bytes behind its last slot, which are no part of an image with more sectors.
+fn grow_behind<M: Machine>(rt: &impl Abort, m: &mut M) -> Result<(), Failed> {
+    let sectors = m.attach(GROWN, Attach::Old)?;
+    assert!(rt; sectors > 6);
+    m.extend(8)?;
+    let mut buf = [0; 512];
+    assert_eq!(rt; m.read(7, &mut buf), Ok(Seen::Damaged));
+    Ok(())
+}
+
+#[test]
+fn an_image_grows(rt: HostRuntime) -> Result<(), Fail> {
+    let _ = fs::remove_file(&rt, GROWN);
+    grow(&rt, &mut FileMachine::new(&rt))?;
+    let mut file = fs::read(&rt, GROWN)?;
+    assert_eq!(rt; file.len(), 7 * SLOT_BYTES);
+    for (sector, seen, byte) in GROWN_READS {
+        let read = read_of(&rt, &mut FileMachine::new(&rt), GROWN, sector)?;
+        assert_eq!(rt; read, (seen, repeated(byte)));
+    }
+    // all of the slot behind the last one but its last byte, which is a zero
+    file.extend_from_slice(&slot_of(7, &filled(255, 0))[..SLOT_BYTES - 1])?;
+    fs::write(&rt, GROWN, file)?;
+    grow_behind(&rt, &mut FileMachine::new(&rt))?;
+    assert_eq!(rt; fs::read(&rt, GROWN)?.len(), 8 * SLOT_BYTES);
+    fs::remove_file(&rt, GROWN)?;
     Ok(())
 }

@@ -1,9 +1,9 @@
 //! The calls of the outside in memory.
-ghost use Rattle.std.specs.Prelude.{◌≡◌, false, true, ◌⊎◌, ◌+◌, ◌-◌, ◌/◌, ◌%◌, ◌^◌, ◌<◌, ◌≤◌, ◌++◌, min, drop, refl, length, is_ok, IfOk, IfErr, OnOk, OnErr};
+ghost use Rattle.std.specs.Prelude.{◌≡◌, false, true, ◌⊎◌, ◌+◌, ◌-◌, ◌/◌, ◌%◌, ◌^◌, ◌<◌, ◌≤◌, ◌++◌, min, max, drop, refl, length, is_ok, IfOk, IfErr, OnOk, OnErr};
 ghost use Rattle.std.proofs.Common.{inl};
 ghost use Rattle.sector_disk.specs.Image.{longest_run, sector_at};
-ghost use Rattle.memory_machine.specs.State.{Calls, Attached, Written, same, first_waiting, flushed, healed, closed, given, taken, spoken, disk_failed, input_failed, output_failed};
-ghost use Rattle.sector_disk.specs.Machine.{Takes, Wears, Utters, Says, OutputCause, Attaches, GivesAsked, asked_for, Writes, Tears, DiskCause, InputCause, Names, Settles, Shows, Before, IsSynced, took, wrote, synced_once, place_told};
+ghost use Rattle.memory_machine.specs.State.{Calls, Attached, Written, same, first_waiting, flushed, grown, healed, closed, given, taken, spoken, disk_failed, input_failed, output_failed};
+ghost use Rattle.sector_disk.specs.Machine.{Takes, Wears, Utters, Says, OutputCause, Attaches, GivesAsked, asked_for, Writes, Tears, Extends, Grows, DiskCause, InputCause, Names, Settles, Shows, Before, IsSynced, took, wrote, synced_once, place_told};
 ghost use Rattle.memory_machine.specs.Past.{only_at_end};
 ghost use Rattle.memory_machine.specs.Memory.{memory_report, memory_now, memory_ledger, memory_sized, memory_small, memory_state, MemoryTrusts, MemoryElapses, MemoryReaches, IsHonest, memory_calls, memory_left, memory_short};
 ghost use Rattle.memory_machine.specs.History.{memory_history};
@@ -114,6 +114,26 @@ impl Machine for MemoryMachine {
         let done = self.put(sector, bytes, stood, goes, stops);
         if !done {
             return Err(self.disk_fault(sector));
+        }
+        Ok(())
+    }
+
+    fn extend(&mut self, sectors: u32) -> Result<(), Failed>
+        requires attached { 0 < (memory_report self.old).sectors }
+        ensures cause { DiskCause (memory_report self.old) (memory_report self.new) 0 result }
+        ensures sectors { OnOk result ((memory_report self.new).sectors ≡ max (memory_report self.old).sectors sectors) }
+        ensures sectors_err { OnErr result ((memory_report self.new).sectors ≡ (memory_report self.old).sectors) }
+        ensures trust { MemoryTrusts self.old self.new }
+        ensures extended { OnOk result (IsHonest self.new → Extends sectors (memory_now self.old) (memory_now self.new)) }
+        ensures synced { OnOk result (IsHonest self.new → IsSynced (memory_now self.new)) }
+        ensures failed { OnErr result (IsHonest self.new → Grows sectors (memory_now self.old) (memory_now self.new)) }
+        ensures time { MemoryElapses self.old self.new (Grows sectors (memory_now self.old)) }
+        ensures reached { OnOk result (MemoryReaches self.old self.new (Grows sectors (memory_now self.old))) }
+        ensures ledger { Unit {0} → memory_ledger self.new ≡ memory_ledger self.old }
+        ensures exact { Calls false (grown sectors) (disk_failed 0) (memory_state self.old) (memory_state self.new) (is_ok result) }
+    {
+        if !self.widen(sectors) {
+            return Err(self.disk_fault(0));
         }
         Ok(())
     }
