@@ -3,7 +3,6 @@ use Rattle.std.proofs.Common.{◌≡◌, ℕ, Bool, true, false, List, [], ◌�
 use Rattle.std.specs.Prelude.{IfErr, OnOk, Result, Ok, Err, if◌then◌else◌}
 use Rattle.std.specs.List.{concat}
 use Rattle.std.proofs.lemmas.List.{append-nil}
-use Rattle.fsd_bytes.specs.declared.key.Serial.{Serial}
 use Rattle.fsd_bytes.specs.declared.refusal.Refusal.TheVariants as Why
 use Rattle.fsd_dumps.specs.Dump.{item_bytes}
 use Rattle.fsd_formats.specs.declared.entry.Entry.{Entry}
@@ -13,7 +12,8 @@ use Rattle.fsd_log.specs.Scan.{Placed}
 use Rattle.fsd_files.specs.Files.{Files}
 use Rattle.fsd_files.specs.Volume.{Volume}
 use Rattle.fsd_sound.specs.Mounted.{Mounted}
-use Rattle.fsd_runs.specs.Dumps.{dumped_of, serial_lt}
+use Rattle.fsd_runs.specs.declared.span.Span.{Span}
+use Rattle.fsd_runs.specs.Dumps.{dumped_of, is_in_span}
 use Rattle.volume_contract.specs.State.{Known, State}
 use Rattle.volume_dump.specs.declared.fault.DumpFault.{DumpFault}
 use Rattle.volume_dump.specs.declared.fault.DumpFault.TheVariants.{Refused, Found, Cut, Output, Memory}
@@ -41,20 +41,20 @@ one_said : (files : Files) (e : Entry) (is : Bool) → is ≡ true → concat (m
 one_said files e true here = append-nil (item_bytes (dumped_of files e))
 one_said files e false here = absurd (cc here)
 
-pub said_one : (since : Serial) (files : Files) (e : Entry) (bytes : List ℕ) → serial_lt since e.serial ≡ true → bytes ≡ (dumped_of files e).bytes → item_bytes (with_bytes e bytes) ≡ said_of since files (e ∷ [])
-said_one since files e bytes is same = ap (λ (xs : List ℕ). item_bytes (with_bytes e xs)) same ∙ sym (one_said files e (serial_lt since e.serial) is)
+pub said_one : (span : Span) (files : Files) (e : Entry) (bytes : List ℕ) → is_in_span span e.serial ≡ true → bytes ≡ (dumped_of files e).bytes → item_bytes (with_bytes e bytes) ≡ said_of span files (e ∷ [])
+said_one span files e bytes is same = ap (λ (xs : List ℕ). item_bytes (with_bytes e xs)) same ∙ sym (one_said files e (is_in_span span e.serial) is)
 
 -- it can't be read
-pub unread_ends : (T : Type 0) (since : Serial) (v : Volume) (e : Entry) (a b : Moment) (fault : DumpFault) → serial_lt since e.serial ≡ true → Wears a b → IsUnread e b.image fault → EndsEntry {T = T} since v e a b (Err fault)
-unread_ends T since v e a b (Cut s) is worn unread = (record { chosen_is = is; own = unread.0; damaged = unread.1 }, worn.said)
-unread_ends T since v e a b Memory is worn unread = worn.said
-unread_ends T since v e a b (Refused (Why.Device s)) is worn unread = worn.said
-unread_ends T since v e a b (Refused why) is worn unread = absurd unread
-unread_ends T since v e a b (Found found) is worn unread = absurd unread
-unread_ends T since v e a b Output is worn unread = absurd unread
+pub unread_ends : (T : Type 0) (span : Span) (v : Volume) (e : Entry) (a b : Moment) (fault : DumpFault) → is_in_span span e.serial ≡ true → Wears a b → IsUnread e b.image fault → EndsEntry {T = T} span v e a b (Err fault)
+unread_ends T span v e a b (Cut s) is worn unread = (record { chosen_is = is; own = unread.0; damaged = unread.1 }, worn.said)
+unread_ends T span v e a b Memory is worn unread = worn.said
+unread_ends T span v e a b (Refused (Why.Device s)) is worn unread = worn.said
+unread_ends T span v e a b (Refused why) is worn unread = absurd unread
+unread_ends T span v e a b (Found found) is worn unread = absurd unread
+unread_ends T span v e a b Output is worn unread = absurd unread
 
 -- it is read, and said or not
-pub said_ends : (since : Serial) (v : Volume) (e : Entry) (a mid b : Moment) (text : List ℕ) → Wears a mid → text ≡ said_of since v.files (e ∷ []) → (r : Result (Unit {0}) DumpFault) → IfErr r (λ fault. fault ≡ Output)
-    → OnOk r (Says text mid b) → EndsEntry since v e a b r
-said_ends since v e a mid b text worn same (Ok x) is says = says.said ∙ ap (λ (xs : List ℕ). mid.said ++ xs) same ∙ ap (λ (xs : List ℕ). xs ++ said_of since v.files (e ∷ [])) worn.said
-said_ends since v e a mid b text worn same (Err fault) is says = subst (λ (x : DumpFault). EndsEntry {T = Unit {0}} since v e a b (Err x)) (sym is) tt
+pub said_ends : (span : Span) (v : Volume) (e : Entry) (a mid b : Moment) (text : List ℕ) → Wears a mid → text ≡ said_of span v.files (e ∷ []) → (r : Result (Unit {0}) DumpFault) → IfErr r (λ fault. fault ≡ Output)
+    → OnOk r (Says text mid b) → EndsEntry span v e a b r
+said_ends span v e a mid b text worn same (Ok x) is says = says.said ∙ ap (λ (xs : List ℕ). mid.said ++ xs) same ∙ ap (λ (xs : List ℕ). xs ++ said_of span v.files (e ∷ [])) worn.said
+said_ends span v e a mid b text worn same (Err fault) is says = subst (λ (x : DumpFault). EndsEntry {T = Unit {0}} span v e a b (Err x)) (sym is) tt

@@ -5,14 +5,14 @@ use Rattle.std.proofs.lemmas.List.{append-nil, map-append}
 use Rattle.std.proofs.lemmas.List.Elements.{filter-append}
 use Rattle.std.proofs.lemmas.List.Folds.{concat-append}
 use Rattle.std.proofs.Math.Seq.{take-append-add}
-use Rattle.fsd_bytes.specs.declared.key.Serial.{Serial}
 use Rattle.fsd_dumps.specs.Dump.{Dumped, fields_bytes, front_bytes, item_bytes}
 use Rattle.fsd_formats.specs.declared.entry.Entry.{Entry}
 use Rattle.sector_disk.specs.Image.{IsWorn, Windows, open_damage}
 use Rattle.sector_disk.specs.Machine.{Moment, Says, Utters, Wears}
 use Rattle.sector_disk.proofs.Wear.{worn_trans}
 use Rattle.fsd_files.specs.Files.{Files}
-use Rattle.fsd_runs.specs.Dumps.{chosen, dumped_of, serial_lt}
+use Rattle.fsd_runs.specs.declared.span.Span.{Span}
+use Rattle.fsd_runs.specs.Dumps.{chosen, dumped_of, is_in_span}
 use Rattle.volume_dump.specs.Dump.{SaysSome}
 use Rattle.volume_dump.specs.Saying.{items_of, said_of}
 
@@ -86,12 +86,12 @@ some_then a b c first second =
 
 -- ---- the text of versions
 
-pub items_both : (since : Serial) (files : Files) (xs ys : List Entry) → items_of since files (xs ++ ys) ≡ items_of since files xs ++ items_of since files ys
-items_both since files xs ys =
-    let is = λ (e : Entry). serial_lt since e.serial in
+pub items_both : (span : Span) (files : Files) (xs ys : List Entry) → items_of span files (xs ++ ys) ≡ items_of span files xs ++ items_of span files ys
+items_both span files xs ys =
+    let is = λ (e : Entry). is_in_span span e.serial in
     ap (λ (es : List Entry). map item_bytes (map (dumped_of files) es)) (filter-append is xs ys)
-    ∙ ap (map item_bytes) (map-append (dumped_of files) (chosen since xs) (chosen since ys))
-    ∙ map-append item_bytes (map (dumped_of files) (chosen since xs)) (map (dumped_of files) (chosen since ys))
+    ∙ ap (map item_bytes) (map-append (dumped_of files) (chosen span xs) (chosen span ys))
+    ∙ map-append item_bytes (map (dumped_of files) (chosen span xs)) (map (dumped_of files) (chosen span ys))
 
-pub said_both : (since : Serial) (files : Files) (xs ys : List Entry) → said_of since files (xs ++ ys) ≡ said_of since files xs ++ said_of since files ys
-said_both since files xs ys = ap concat (items_both since files xs ys) ∙ concat-append (items_of since files xs) (items_of since files ys)
+pub said_both : (span : Span) (files : Files) (xs ys : List Entry) → said_of span files (xs ++ ys) ≡ said_of span files xs ++ said_of span files ys
+said_both span files xs ys = ap concat (items_both span files xs ys) ∙ concat-append (items_of span files xs) (items_of span files ys)

@@ -31,7 +31,7 @@ returns-in-Ok-say_part-clause-says g c =
     let M = g.M.Machine in
     let at = (goal.at.returns-in-Ok-say_part-clause-says g c).In-Ok in
     let call = c.in-Ok-say_versions.ensures in
-    end_says c.args.since c.args.tally (head_of g at) (head_said g at) call.says (λ h k stands. call.done h k stands)
+    end_says c.args.span c.args.tally (head_of g at) (head_said g at) call.says (λ h k stands. call.done h k stands)
     (volume_says_more (volume_spoken c.end_of.result (g.met.V.Files.wears c.say_versions.new.v) (g.met.M.Machine.short c.say_versions.new.m) c.in-Ok-say_part.ensures.disk)
     (λ h left u. utters_as c.end_of.result (end_text c.args.tally) (M.now c.say_versions.new.m) left c.end_of.ensures u))
 
@@ -43,14 +43,14 @@ returns-in-Err-say_part-clause-says g c =
     let call = c.in-Ok-say_versions.ensures in
     let failed : Result ℕ DumpFault = Err c.in-Err-say_part.fault in
     volume_told (output_device failed c.in-Err-say_part.ensures.fault) refl
-    (end_says c.args.since c.args.tally (head_of g at) (head_said g at) call.says (λ h k stands. call.done h k stands)
+    (end_says c.args.span c.args.tally (head_of g at) (head_said g at) call.says (λ h k stands. call.done h k stands)
     (volume_says_more (volume_spoken c.end_of.result (g.met.V.Files.wears c.say_versions.new.v) (g.met.M.Machine.short c.say_versions.new.m) c.in-Err-say_part.ensures.disk)
     (λ h left u. utters_as c.end_of.result (end_text c.args.tally) (M.now c.say_versions.new.m) left c.end_of.ensures u)))
 
 pub returns-in-Err-say_versions-clause-says : goal.returns-in-Err-say_versions-clause-says
 returns-in-Err-say_versions-clause-says g c =
     let at = (goal.at.returns-in-Err-say_versions-clause-says g c).In-Ok in
-    versions_say c.args.since c.args.tally (head_of g at) (head_said g at) c.in-Err-say_versions.ensures.says
+    versions_say c.args.span c.args.tally (head_of g at) (head_said g at) c.in-Err-say_versions.ensures.says
 
 pub returns-in-Err-clause-says : goal.returns-in-Err-clause-says
 returns-in-Err-clause-says g c =
@@ -58,7 +58,7 @@ returns-in-Err-clause-says g c =
     let M = g.M.Machine in
     let failed : Result ℕ DumpFault = Err c.in-Err.fault in
     volume_told (output_device failed c.in-Err.ensures.fault) refl
-    (head_says c.args.since c.args.tally
+    (head_says c.args.span c.args.tally
     (volume_says_more (volume_spoken c.head_of.result (g.met.V.Files.wears c.args.v.now) (g.met.M.Machine.short c.args.m.now) c.in-Err.ensures.disk)
     (λ h left u. utters_as c.head_of.result (head_text c.args.tally) (M.now c.args.m.now) left c.head_of.ensures u)))
 
@@ -71,8 +71,8 @@ returns-in-Ok-say_part-clause-done g c = λ h k stands headed.
     let there = end.disk.trust.honest h in
     let back = call.says.disk.trust.honest there in (
       refl,
-      whole_said c.args.since (volume_of k) c.args.tally headed.count headed.latest (now c.args.m.now) (now c.say_part.new.m) (head_said g at back) (now c.say_versions.new.m)
-          (says_so (all_said c.args.since k) (now c.say_part.new.m) (now c.say_versions.new.m) (call.says.disk.exit there).0 (call.done there k ((head_of g at).stands back k stands)))
+      whole_said c.args.span (volume_of k) c.args.tally headed.count headed.latest (now c.args.m.now) (now c.say_part.new.m) (head_said g at back) (now c.say_versions.new.m)
+          (says_so (all_said c.args.span k) (now c.say_part.new.m) (now c.say_versions.new.m) (call.says.disk.exit there).0 (call.done there k ((head_of g at).stands back k stands)))
           (now c.say_part-in-Ok-say_versions.new.m)
           (says_as c.end_of.result (end_text c.args.tally) (now c.say_versions.new.m) (now c.say_part-in-Ok-say_versions.new.m) c.end_of.ensures (end.said h)),
     )
@@ -83,5 +83,5 @@ returns-in-Err-say_versions-clause-done g c = λ h k stands headed.
     let at = (goal.at.returns-in-Err-say_versions-clause-done g c).In-Ok in
     let call = c.in-Err-say_versions.ensures in
     let back = call.says.disk.trust.honest h in
-    versions_fail c.args.since (volume_of k) c.args.tally headed.count headed.latest (now c.args.m.now) (now c.say_part.new.m) (now c.say_versions.new.m) (head_said g at back).said
+    versions_fail c.args.span (volume_of k) c.args.tally headed.count headed.latest (now c.args.m.now) (now c.say_part.new.m) (now c.say_versions.new.m) (head_said g at back).said
     (Unit {0}) c.args.tally.chosen c.in-Err-say_versions.fault (call.done h k ((head_of g at).stands back k stands))

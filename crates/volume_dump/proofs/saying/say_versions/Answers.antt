@@ -24,8 +24,8 @@ loop-init g c =
     let a = c.args.m.now in
     record {
       says = volume_says_more (record { disk = reads_as_says (reads_none a (λ left h was. g.met.M.Machine.only_now a left h was)); same = refl; stands = λ h k stands. stands })
-          (λ h left worn. wears_leaves V.state V.holds c.args.v.now (λ k. ⊤) (all_said c.args.since) (M.now a) left worn);
-      said = λ h k stands. said_none c.args.since (volume_of k) (M.now a);
+          (λ h left worn. wears_leaves V.state V.holds c.args.v.now (λ k. ⊤) (all_said c.args.span) (M.now a) left worn);
+      said = λ h k stands. said_none c.args.span (volume_of k) (M.now a);
     }
 
 pub loop-preserved : goal.loop-preserved
@@ -35,10 +35,10 @@ loop-preserved g c =
     let was = c.loop.invariant in
     let next = c.in-Ok-Some.ensures in
     let call = c.in-Ok.ensures in
-    let since = c.args.since in
+    let span = c.args.span in
     let e = c.in-Ok-Some.e in
     record {
-      says = row_says since c.loop.counter c.loop.last was.says was.said e next.reads
+      says = row_says span c.loop.counter c.loop.last was.says was.said e next.reads
           (λ h k stands. subst (λ (o : Option Entry). Found (entry_after c.loop.last (volume_of k).entries) ≡ Found o) c.in-Ok-Some.field-0-is (next.done h k (was.says.stands (next.reads.disk.trust.honest h) k stands))) call.says;
       said = λ h k stands.
           let there = call.says.disk.trust.honest h in
@@ -49,15 +49,15 @@ loop-preserved g c =
           let row = was.said back k stands in
           let a = M.now c.args.m.now in
           let b = M.now c.loop.m in
-          row_more V.state V.holds c.loop.v k since a b here some c.loop.counter c.loop.last row e looks (M.now c.next_one.new.m) (M.now c.say_chosen.new.m) (next.reads.disk.worn there).said
-          (call.done h k (next.reads.stands there k here) (row_entered V.state V.holds c.loop.v k since a b here some c.loop.counter c.loop.last row e looks));
+          row_more V.state V.holds c.loop.v k span a b here some c.loop.counter c.loop.last row e looks (M.now c.next_one.new.m) (M.now c.say_chosen.new.m) (next.reads.disk.worn there).said
+          (call.done h k (next.reads.stands there k here) (row_entered V.state V.holds c.loop.v k span a b here some c.loop.counter c.loop.last row e looks));
     }
 
 pub returns-in-Err-say_chosen-clause-says : goal.returns-in-Err-say_chosen-clause-says
 returns-in-Err-say_chosen-clause-says g c =
     let was = c.loop.invariant in
     let next = c.in-Ok-Some.ensures in
-    row_says c.args.since c.loop.counter c.loop.last was.says was.said c.in-Ok-Some.e next.reads
+    row_says c.args.span c.loop.counter c.loop.last was.says was.said c.in-Ok-Some.e next.reads
     (λ h k stands. subst (λ (o : Option Entry). Found (entry_after c.loop.last (volume_of k).entries) ≡ Found o) c.in-Ok-Some.field-0-is (next.done h k (was.says.stands (next.reads.disk.trust.honest h) k stands))) c.in-Err-say_chosen.ensures.says
 
 pub returns-in-Err-say_chosen-clause-done : goal.returns-in-Err-say_chosen-clause-done
@@ -67,7 +67,7 @@ returns-in-Err-say_chosen-clause-done g c = λ h k stands.
     let was = c.loop.invariant in
     let next = c.in-Ok-Some.ensures in
     let call = c.in-Err-say_chosen.ensures in
-    let since = c.args.since in
+    let span = c.args.span in
     let e = c.in-Ok-Some.e in
     let there = call.says.disk.trust.honest h in
     let back = next.reads.disk.trust.honest there in
@@ -77,11 +77,11 @@ returns-in-Err-say_chosen-clause-done g c = λ h k stands.
     let row = was.said back k stands in
     let a = M.now c.args.m.now in
     let b = M.now c.loop.m in
-    row_fails V.state V.holds c.loop.v k since a b here some c.loop.counter c.loop.last row e looks (Unit {0}) (M.now c.next_one.new.m) (M.now c.say_chosen.new.m) (next.reads.disk.worn there).said c.in-Err-say_chosen.fault
-    (call.done h k (next.reads.stands there k here) (row_entered V.state V.holds c.loop.v k since a b here some c.loop.counter c.loop.last row e looks))
+    row_fails V.state V.holds c.loop.v k span a b here some c.loop.counter c.loop.last row e looks (Unit {0}) (M.now c.next_one.new.m) (M.now c.say_chosen.new.m) (next.reads.disk.worn there).said c.in-Err-say_chosen.fault
+    (call.done h k (next.reads.stands there k here) (row_entered V.state V.holds c.loop.v k span a b here some c.loop.counter c.loop.last row e looks))
 
 pub returns-in-Ok-None-clause-says : goal.returns-in-Ok-None-clause-says
-returns-in-Ok-None-clause-says g c = row_reads c.args.since c.loop.counter c.loop.last c.loop.invariant.says c.loop.invariant.said c.in-Ok-None.ensures.reads
+returns-in-Ok-None-clause-says g c = row_reads c.args.span c.loop.counter c.loop.last c.loop.invariant.says c.loop.invariant.said c.in-Ok-None.ensures.reads
 
 pub returns-in-Ok-None-clause-done : goal.returns-in-Ok-None-clause-done
 returns-in-Ok-None-clause-done g c = λ h k stands.
@@ -92,7 +92,7 @@ returns-in-Ok-None-clause-done g c = λ h k stands.
     let back = next.reads.disk.trust.honest h in
     let here = was.says.stands back k stands in
     let looks = subst (λ (o : Option Entry). Found (entry_after c.loop.last (volume_of k).entries) ≡ Found o) c.in-Ok-None.field-0-is (next.done h k here) in
-    row_all V.state V.holds c.loop.v k c.args.since (M.now c.args.m.now) (M.now c.loop.m) here (was.says.disk.exit back).0 c.loop.counter c.loop.last (was.said back k stands) (M.now c.next_one.new.m) looks (next.reads.disk.worn h).said
+    row_all V.state V.holds c.loop.v k c.args.span (M.now c.args.m.now) (M.now c.loop.m) here (was.says.disk.exit back).0 c.loop.counter c.loop.last (was.said back k stands) (M.now c.next_one.new.m) looks (next.reads.disk.worn h).said
 
 pub returns-in-Err-clause-order : goal.returns-in-Err-clause-order
 returns-in-Err-clause-order g c =
@@ -102,7 +102,7 @@ returns-in-Err-clause-order g c =
 pub returns-in-Err-clause-says : goal.returns-in-Err-clause-says
 returns-in-Err-clause-says g c =
     volume_told (device_told (Unit {0}) c.in-Err.why c.fault_of.result c.fault_of.ensures) (unsaid_told (Unit {0}) c.in-Err.why c.fault_of.result c.fault_of.ensures)
-    (row_reads c.args.since c.loop.counter c.loop.last c.loop.invariant.says c.loop.invariant.said c.in-Err.ensures.reads)
+    (row_reads c.args.span c.loop.counter c.loop.last c.loop.invariant.says c.loop.invariant.said c.in-Err.ensures.reads)
 
 pub returns-in-Err-clause-tells : goal.returns-in-Err-clause-tells
 returns-in-Err-clause-tells g c = λ h.
@@ -124,8 +124,8 @@ returns-in-Err-clause-done g c = λ h k stands.
     let here = was.says.stands back k stands in
     let a = M.now c.args.m.now in
     let end = M.now c.next_one.new.m in
-    subst (λ (fault : DumpFault). EndsEntries {T = Unit {0}} c.args.since (volume_of k) a end (Err fault)) (sym c.fault_of.ensures)
-    (row_unmet V.state V.holds c.loop.v k c.args.since a (M.now c.loop.m) here (was.says.disk.exit back).0 c.loop.counter c.loop.last (was.said back k stands) (Unit {0}) end (next.reads.disk.worn h).said
+    subst (λ (fault : DumpFault). EndsEntries {T = Unit {0}} c.args.span (volume_of k) a end (Err fault)) (sym c.fault_of.ensures)
+    (row_unmet V.state V.holds c.loop.v k c.args.span a (M.now c.loop.m) here (was.says.disk.exit back).0 c.loop.counter c.loop.last (was.said back k stands) (Unit {0}) end (next.reads.disk.worn h).said
     c.in-Err.why (outside_only (entry_after c.loop.last (volume_of k).entries) c.in-Err.why (next.done h k here)))
 
 pub returns-clause-done : goal.returns-clause-done
@@ -137,5 +137,5 @@ returns-clause-done g c = λ h k stands.
     let same = ap (λ (s : State). s.versions) was.says.same in
     let most = c.loop.auto.counter-end in
     let ended = c.loop-test.false in
-    row_counted V.state V.holds c.loop.v k c.args.since (M.now c.args.m.now) (M.now c.loop.m) (was.says.stands h k stands) (was.says.disk.exit h).0 c.loop.counter c.loop.last (was.said h k stands)
+    row_counted V.state V.holds c.loop.v k c.args.span (M.now c.args.m.now) (M.now c.loop.m) (was.says.stands h k stands) (was.says.disk.exit h).0 c.loop.counter c.loop.last (was.said h k stands)
     c.stat-end.result.versions (omega (arith, asked, same)) (omega (arith, most, ended))

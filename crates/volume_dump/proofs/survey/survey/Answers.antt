@@ -10,7 +10,7 @@ returns-in-Ok-clause-done g c = λ h k stands.
     let next = c.in-Ok.ensures in
     let call = c.survey_all.ensures in
     let back = call.reads.disk.trust.honest h in
-    survey_since _ (now c.args.m.now).image (now c.next_one.new.m).image (now c.survey_all.new.m).image (next.reads.disk.worn back).image c.args.since (volume_of k).entries c.survey_all.new.found.items c.survey_all.result
+    survey_since _ (now c.args.m.now).image (now c.next_one.new.m).image (now c.survey_all.new.m).image (next.reads.disk.worn back).image c.args.span (volume_of k).entries c.survey_all.new.found.items c.survey_all.result
     (call.done h k (next.reads.stands back k stands))
 
 pub returns-in-Err-clause-told : goal.returns-in-Err-clause-told

@@ -31,13 +31,13 @@ loop-preserved g c =
           let back = call.reads.disk.trust.honest h in
           subst (λ (s : State). AreDamaged s.layout end c.survey_one.new.found.items) front.same
           (call.damaged h (subst (λ (s : State). AreDamaged s.layout mid c.loop.found.items) (sym front.same) (damaged_on (V.state c.args.v.now).layout _ b mid (next.reads.disk.worn back).image c.loop.found.items (was.damaged (next.reads.disk.trust.honest back)))));
-      few = let before = was.few in let one = one_most c.args.since c.in-Ok-Some.e in let counts = call.counts.count in omega (arith, before, one, counts);
+      few = let before = was.few in let one = one_most c.args.span c.in-Ok-Some.e in let counts = call.counts.count in omega (arith, before, one, counts);
       surveyed = λ h k stands.
           let back = call.reads.disk.trust.honest h in
           let there = next.reads.disk.trust.honest back in
           let looks = subst (λ (o : Option Entry). Found (entry_after c.loop.last (volume_of k).entries) ≡ Found o) c.in-Ok-Some.field-0-is (next.done back k (was.reads.stands there k stands)) in
-          survey_more V.state V.holds c.loop.v k (M.now c.loop.m) (was.reads.stands there k stands) _ _ a mid end (front.disk.worn back).image (call.reads.disk.worn h).image c.args.since c.loop.counter c.loop.last c.loop.so_far c.loop.found.items
-          (survey_kept V.state V.holds c.loop.v k (M.now c.loop.m) (was.reads.stands there k stands) _ _ a b mid (was.reads.disk.worn there).image (next.reads.disk.worn back).image c.args.since c.loop.counter c.loop.last c.loop.so_far c.loop.found.items (was.surveyed there k stands))
+          survey_more V.state V.holds c.loop.v k (M.now c.loop.m) (was.reads.stands there k stands) _ _ a mid end (front.disk.worn back).image (call.reads.disk.worn h).image c.args.span c.loop.counter c.loop.last c.loop.so_far c.loop.found.items
+          (survey_kept V.state V.holds c.loop.v k (M.now c.loop.m) (was.reads.stands there k stands) _ _ a b mid (was.reads.disk.worn there).image (next.reads.disk.worn back).image c.args.span c.loop.counter c.loop.last c.loop.so_far c.loop.found.items (was.surveyed there k stands))
           c.in-Ok-Some.e looks c.in-Ok.more c.survey_one.new.found.items call.counts (call.adds h);
     }
 
@@ -77,7 +77,7 @@ returns-in-Ok-None-clause-done g c = λ h k stands.
     let there = next.reads.disk.trust.honest h in
     let looks = subst (λ (o : Option Entry). Found (entry_after c.loop.last (volume_of k).entries) ≡ Found o) c.in-Ok-None.field-0-is (next.done h k (was.reads.stands there k stands)) in
     survey_all V.state V.holds c.loop.v k (M.now c.loop.m) (was.reads.stands there k stands) _ _ (M.now c.args.m.now).image (M.now c.loop.m).image (M.now c.next_one.new.m).image (was.reads.disk.worn there).image (next.reads.disk.worn h).image
-    c.args.since c.loop.counter c.loop.last c.loop.so_far c.loop.found.items (was.surveyed there k stands) looks
+    c.args.span c.loop.counter c.loop.last c.loop.so_far c.loop.found.items (was.surveyed there k stands) looks
 
 pub returns-in-Err-clause-reads : goal.returns-in-Err-clause-reads
 returns-in-Err-clause-reads g c = volume_read_then c.loop.invariant.reads c.in-Err.ensures.reads
@@ -113,4 +113,4 @@ returns-clause-done g c = λ h k stands.
     let most = c.loop.auto.counter-end in
     let ended = c.loop-test.false in
     survey_counted V.state V.holds c.loop.v k (M.now c.loop.m) (was.reads.stands h k stands) _ (λ s. false) (M.now c.args.m.now).image (M.now c.loop.m).image (M.now c.loop.m).image here (worn_refl (λ s. false) (M.now c.loop.m).image)
-    c.args.since c.loop.counter c.loop.last c.loop.so_far c.loop.found.items (was.surveyed h k stands) c.stat-end.result.versions (omega (arith, asked, same)) (omega (arith, most, ended))
+    c.args.span c.loop.counter c.loop.last c.loop.so_far c.loop.found.items (was.surveyed h k stands) c.stat-end.result.versions (omega (arith, asked, same)) (omega (arith, most, ended))

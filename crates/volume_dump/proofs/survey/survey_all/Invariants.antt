@@ -11,5 +11,5 @@ invariant-loop g l = record {
   reads : ReadsVolume g.M.Machine g.V.Files.state g.V.Files.holds None l.fn.v l.v l.fn.m l.m;
   damaged : g.M.Machine.honest l.m → AreDamaged (g.V.Files.state l.fn.v).layout (g.M.Machine.now l.m).image l.found.items;
   few : l.so_far.chosen ≤ l.counter;
-  surveyed : g.M.Machine.honest l.m → (k : Known) → Stands g.V.Files.state g.V.Files.holds l.fn.v k (g.M.Machine.now l.fn.m) → HasSurveyed l.fn.since (volume_of k).entries l.counter l.last (g.M.Machine.now l.fn.m).image (g.M.Machine.now l.m).image l.so_far l.found.items;
+  surveyed : g.M.Machine.honest l.m → (k : Known) → Stands g.V.Files.state g.V.Files.holds l.fn.v k (g.M.Machine.now l.fn.m) → HasSurveyed l.fn.span (volume_of k).entries l.counter l.last (g.M.Machine.now l.fn.m).image (g.M.Machine.now l.m).image l.so_far l.found.items;
 }

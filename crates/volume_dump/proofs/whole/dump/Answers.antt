@@ -20,7 +20,7 @@ returns-then-is_empty-clause-disk g c =
     let b = M.now c.survey.new.m in
     let survey = c.in-Ok.ensures in
     let call = c.say_all.ensures in
-    says_after {R = LeavesDumped V.state V.holds c.args.v.now c.args.since} (reads_as_says survey.reads.disk) call.says.disk
+    says_after {R = LeavesDumped V.state V.holds c.args.v.now c.args.span} (reads_as_says survey.reads.disk) call.says.disk
     (λ h left worn. (wears_some a left worn, λ k stands. wears_utters _ a left worn))
     (λ h left leaves.
     let back = call.says.disk.trust.honest h in
@@ -42,7 +42,7 @@ returns-then-is_empty-clause-done g c = λ h k stands.
     let is = survey.done back k stands in
     let zero = eqb-true (vec_len c.survey.new.found) 0 (sym c.is_empty.ensures ∙ c.if-is_empty.true) in
     let long = c.survey.new.found.ok.0 in
-    saying_ends c.args.since (volume_of k) a b (M.now c.say_all.new.m) (survey.reads.disk.worn back).said
+    saying_ends c.args.span (volume_of k) a b (M.now c.say_all.new.m) (survey.reads.disk.worn back).said
     (none_hurt a.image b.image _ c.survey.new.found.items (nil_from_length c.survey.new.found.items (omega (arith, zero, long))) is.picks) c.in-Ok.surveyed.chosen is.count c.say_all.result
     (call.done h k (survey.reads.stands back k stands) (record { count = is.count; latest = is.latest }))
 
@@ -51,14 +51,14 @@ returns-else-is_empty-clause-disk g c =
     let V = g.V.Files in
     let M = g.M.Machine in
     let a = M.now c.args.m.now in
-    says_more {R = LeavesDumped V.state V.holds c.args.v.now c.args.since} (reads_as_says c.in-Ok.ensures.reads.disk) (λ h left worn. (wears_some a left worn, λ k stands. wears_utters _ a left worn))
+    says_more {R = LeavesDumped V.state V.holds c.args.v.now c.args.span} (reads_as_says c.in-Ok.ensures.reads.disk) (λ h left worn. (wears_some a left worn, λ k stands. wears_utters _ a left worn))
 
 pub returns-in-Err-clause-disk : goal.returns-in-Err-clause-disk
 returns-in-Err-clause-disk g c =
     let V = g.V.Files in
     let M = g.M.Machine in
     let a = M.now c.args.m.now in
-    let R : Moment → Moment → Type 0 = LeavesDumped V.state V.holds c.args.v.now c.args.since in
+    let R : Moment → Moment → Type 0 = LeavesDumped V.state V.holds c.args.v.now c.args.span in
     let survey = c.in-Err.ensures in
     subst (λ (unsaid : Bool). ReadsAndSays M (device_in_dump {T = ℕ} (Err c.fault_of.result)) unsaid R c.args.m.now c.survey.new.m) (sym (unsaid_told ℕ c.in-Err.why c.fault_of.result c.fault_of.ensures))
     (subst (λ (fault : Option ℕ). ReadsAndSays M fault false R c.args.m.now c.survey.new.m) (sym (device_told ℕ c.in-Err.why c.fault_of.result c.fault_of.ensures))
@@ -68,5 +68,5 @@ pub returns-in-Err-clause-done : goal.returns-in-Err-clause-done
 returns-in-Err-clause-done g c = λ h k stands.
     let M = g.M.Machine in
     let survey = c.in-Err.ensures in
-    subst (λ (fault : DumpFault). EndsDump c.args.since (volume_of k) (M.now c.args.m.now) (M.now c.survey.new.m) (Err fault)) (sym c.fault_of.ensures)
-    (refused_ends c.args.since (volume_of k) (M.now c.args.m.now) (M.now c.survey.new.m) (survey.reads.disk.worn h).said c.in-Err.why (survey.done h k stands))
+    subst (λ (fault : DumpFault). EndsDump c.args.span (volume_of k) (M.now c.args.m.now) (M.now c.survey.new.m) (Err fault)) (sym c.fault_of.ensures)
+    (refused_ends c.args.span (volume_of k) (M.now c.args.m.now) (M.now c.survey.new.m) (survey.reads.disk.worn h).said c.in-Err.why (survey.done h k stands))
