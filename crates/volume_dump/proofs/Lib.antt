@@ -1,4 +1,7 @@
 pub mod ToldLaws
+pub mod SerialLaws
+pub mod WeighLaws
+pub mod WeighedLaws
 pub mod TextLaws
 pub mod SaidLaws
 pub mod EntryLaws

@@ -6,6 +6,7 @@ mod saying;
 mod serials;
 mod span;
 mod survey;
+mod weights;
 mod whole;
 
 pub use dump_text::{DumpRead, Item, read_dump};
