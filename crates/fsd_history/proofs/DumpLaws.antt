@@ -69,7 +69,7 @@ behind_none e done none = by (length done == length e.commands)
 
 -- ---- dumps
 
-answered_none : (mets : List Meeting) (s : Session) → answered mets s [] ≡ []
+pub answered_none : (mets : List Meeting) (s : Session) → answered mets s [] ≡ []
 answered_none [] s = refl
 answered_none (x ∷ mets) s = refl
 
@@ -88,7 +88,7 @@ module _ (since : Serial) (most : Option ℕ) (v : Volume) where
   none_answered r (Some (ByFault k why)) may mets = absurd may
   none_answered r (Some (ByRefusal k)) may mets = absurd may
 
-  -- nor is it by what is said
+  -- what is said changes nothing either
   says_none : (r : Result Span ℕ) → ChangeNone ((dumping r v).ends []).turns
   says_none (Ok span) = each_changes_none said_turn (λ x. refl) (dump_of span v)
   says_none (Err need) = (refl, tt)
@@ -291,12 +291,15 @@ loads_cut all (Some (ByRefusal k)) e is = first_loads all k (cut_off (Some (ByRe
 loads_cut all (Some (Damages found)) e is = all_loads all (cut_off (Some (Damages found)) e) is
 loads_cut all (Some (BySector k t)) e is = all_loads all (cut_off (Some (BySector k t)) e) is
 
+still_none : (cut : Cut) (e : Errand) → e.commands ≡ [] → (cut_off cut e).commands ≡ []
+still_none None e is = is
+still_none (Some (ByFault k why)) e is = ap (take k) is ∙ take-nil k
+still_none (Some (ByRefusal k)) e is = ap (take k) is ∙ take-nil k
+still_none (Some (Damages found)) e is = is
+still_none (Some (BySector k t)) e is = is
+
 none_cut : (all : List Change) (cut : Cut) (e : Errand) → e.commands ≡ [] → Loads all (cut_off cut e)
-none_cut all None e is = no_loads all e is
-none_cut all (Some (ByFault k why)) e is = no_loads all (cut_off (Some (ByFault k why)) e) (ap (take k) is ∙ take-nil k)
-none_cut all (Some (ByRefusal k)) e is = no_loads all (cut_off (Some (ByRefusal k)) e) (ap (take k) is ∙ take-nil k)
-none_cut all (Some (Damages found)) e is = no_loads all (cut_off (Some (Damages found)) e) is
-none_cut all (Some (BySector k t)) e is = no_loads all (cut_off (Some (BySector k t)) e) is
+none_cut all cut e is = no_loads all (cut_off cut e) (still_none cut e is)
 
 -- a restore that is cut off changes nothing behind its commands, if it changes nothing there where it is not
 ends_cut : (cut : Cut) → MayCut Asks.Restore cut → (e : Errand) → ((done : List Answered) → ChangeNone (e.ends done).turns) → (done : List Answered) → ChangeNone ((cut_off cut e).ends done).turns
@@ -307,16 +310,24 @@ ends_cut (Some (Damages found)) may e none done = absurd may
 ends_cut (Some (BySector k t)) may e none done = absurd may
 
 -- a fault that ends one has a status of its own
-fault_ends : (k : ℕ) (why : Fault) → MayCut Asks.Restore (Some (ByFault k why)) → 0 ≡ fault_status why → ⊥
-fault_ends k Ended.WornOut may nought = omega (arith, nought)
-fault_ends k why may nought = absurd may
+module _ (n : ℕ) (own : n ≡ 9 → ⊥) where
+  fault_ends : (k : ℕ) (why : Fault) → MayCut Asks.Restore (Some (ByFault k why)) → n ≡ fault_status why → ⊥
+  fault_ends k Ended.WornOut may is = own is
+  fault_ends k why may is = absurd may
 
-no_end : (cut : Cut) → MayCut Asks.Restore cut → (e : Errand) (done : List Answered) → (0 ≡ (e.ends done).status → ⊥) → 0 ≡ ((cut_off cut e).ends done).status → ⊥
-no_end None may e done other nought = other nought
-no_end (Some (ByFault k why)) may e done other nought = fault_ends k why may nought
-no_end (Some (ByRefusal k)) may e done other nought = other nought
-no_end (Some (Damages found)) may e done other nought = may
-no_end (Some (BySector k t)) may e done other nought = may
+  no_end : (cut : Cut) → MayCut Asks.Restore cut → (e : Errand) (done : List Answered) → (n ≡ (e.ends done).status → ⊥) → n ≡ ((cut_off cut e).ends done).status → ⊥
+  no_end None may e done other is = other is
+  no_end (Some (ByFault k why)) may e done other is = fault_ends k why may is
+  no_end (Some (ByRefusal k)) may e done other is = other is
+  no_end (Some (Damages found)) may e done other is = may
+  no_end (Some (BySector k t)) may e done other is = may
+
+-- that of one that ended well, or for want of its input, is another
+nought_own : ◌≡◌ {A = ℕ} 0 9 → ⊥
+nought_own is = omega (arith, is)
+
+five_own : ◌≡◌ {A = ℕ} 5 9 → ⊥
+five_own is = omega (arith, is)
 
 restored_none : (o : Option Refusal) (count : ℕ) → ChangeNone (restored_unless o count).turns
 restored_none (Some why) count = (refl, tt)
@@ -374,7 +385,7 @@ module _ (v : Volume) where
       → IsRestoredSo cut (done_by cut (restoring_unless there items) mets) → EndsWell cut (restoring_unless there items) mets → changes_done (done_by cut (restoring_unless there items) mets) ≡ map load_change items
   unless_all (Some key) items cut may mets through so nought =
       let e = refusing (Says.Exists key) in
-      absurd (no_end cut may e (done_by cut e mets) (λ bad. omega (arith, bad)) nought)
+      absurd (no_end 0 nought_own cut may e (done_by cut e mets) (λ bad. omega (arith, bad)) nought)
   unless_all None items None may mets through so nought = loads_all items mets (session_over v) (through ∙ length-map items load_of) so
   unless_all None items (Some (ByRefusal k)) may mets through so nought = absurd (by (first_refusal done) so.2 nought)
     where
@@ -384,7 +395,7 @@ module _ (v : Volume) where
       by : (o : Option Refusal) → IsSome o → 0 ≡ (restored_unless o (length done)).status → ⊥
       by (Some why) some nought = omega (arith, nought)
       by None some nought = absurd (cc some)
-  unless_all None items (Some (ByFault k why)) may mets through so nought = absurd (fault_ends k why may nought)
+  unless_all None items (Some (ByFault k why)) may mets through so nought = absurd (fault_ends 0 nought_own k why may nought)
   unless_all None items (Some (Damages found)) may mets through so nought = absurd may
   unless_all None items (Some (BySector k t)) may mets through so nought = absurd may
 
@@ -392,17 +403,35 @@ module _ (v : Volume) where
       → EndsWell cut (restore_by b read) mets → (items : List Dumped) × (read ≡ Ok items) × (changes_done (done_by cut (restore_by b read) mets) ≡ map load_change items)
   restore_all true read cut may mets through so nought =
       let e = nothing_but Ended.InputTooLong in
-      absurd (no_end cut may e (done_by cut e mets) (λ bad. omega (arith, bad)) nought)
+      absurd (no_end 0 nought_own cut may e (done_by cut e mets) (λ bad. omega (arith, bad)) nought)
   restore_all false (Err place) cut may mets through so nought =
       let e = refusing (Says.NoDump place) in
-      absurd (no_end cut may e (done_by cut e mets) (λ bad. omega (arith, bad)) nought)
+      absurd (no_end 0 nought_own cut may e (done_by cut e mets) (λ bad. omega (arith, bad)) nought)
   restore_all false (Ok items) cut may mets through so nought = (items, refl, unless_all (first_there items v.entries) items cut may mets through so nought)
+
+  -- of one whose input was too long there are none
+  unless_five : (there : Option Key) (items : List Dumped) (done : List Answered) → 5 ≡ ((restoring_unless there items).ends done).status → ⊥
+  unless_five (Some key) items done is = omega (arith, is)
+  unless_five None items done is = by (first_refusal done) is
+    where
+      by : (o : Option Refusal) → 5 ≡ (restored_unless o (length done)).status → ⊥
+      by (Some why) five = omega (arith, five)
+      by None five = omega (arith, five)
+
+  restore_five : (b : Bool) (read : ItemsRead) (cut : Cut) → MayCut Asks.Restore cut → (mets : List Meeting) → 5 ≡ ((cut_off cut (restore_by b read)).ends (done_by cut (restore_by b read) mets)).status → done_by cut (restore_by b read) mets ≡ []
+  restore_five true read cut may mets is = ap (answered mets (session_over v)) (still_none cut (nothing_but Ended.InputTooLong) refl) ∙ answered_none mets (session_over v)
+  restore_five false (Err place) cut may mets is =
+      let e = refusing (Says.NoDump place) in
+      absurd (no_end 5 five_own cut may e (done_by cut e mets) (λ bad. omega (arith, bad)) is)
+  restore_five false (Ok items) cut may mets is =
+      let e = restoring_unless (first_there items v.entries) items in
+      absurd (no_end 5 five_own cut may e (done_by cut e mets) (unless_five (first_there items v.entries) items (done_by cut e mets)) is)
 
 restored_first : (Shown : Image → Type 0) (input : List ℕ) (s : Files) (p : Plays Shown Asks.Restore input s) (m : ℕ) → AreFirst (loads_read (dumped_in input)) (changes_in (take m (turns_in p)))
 restored_first Shown input s p m = turns_first p.volume (nat_lt max_input (length input)) (dumped_in input) p.cut p.may p.mets p.so m
 
-pub restore_ends : (Shown : Image → Type 0) (input said : List ℕ) (s next : Files) (status : ℕ) → Ends Shown Asks.Restore input s said status next → (status ≡ 0 → LoadsAll input s next) × LoadsSome input s next
-restore_ends Shown input said s next status x = (all, (some.0, x.files ∙ ap (fold step s) (sym (ap changes_in (take_all (length (turns_in p)) (turns_in p) (omega arith))) ∙ some.1)))
+pub restore_ends : (Shown : Image → Type 0) (input said : List ℕ) (s next : Files) (status : ℕ) → Ends Shown Asks.Restore input s said status next → (status ≡ 0 → LoadsAll input s next) × (status ≡ 5 → next ≡ s) × LoadsSome input s next
+restore_ends Shown input said s next status x = (all, none, (some.0, x.files ∙ ap (fold step s) (sym (ap changes_in (take_all (length (turns_in p)) (turns_in p) (omega arith))) ∙ some.1)))
   where
     p : Plays Shown Asks.Restore input s
     p = x.plays
@@ -420,6 +449,17 @@ restore_ends Shown input said s next status x = (all, (some.0, x.files ∙ ap (f
         let made = restore_all v b (dumped_in input) cut x.plays.may x.plays.mets x.through x.plays.so (sym nought ∙ x.ends) in
         let tail = behind_none e done (ends_cut cut x.plays.may (restore_by v b (dumped_in input)) (ends_none v b (dumped_in input)) done) in
         (made.0, made.1, x.files ∙ ap (fold step s) (changes_whole e done (if length done == length e.commands then (e.ends done).turns else blank ∷ []) tail ∙ made.2))
+
+    none : status ≡ 5 → next ≡ s
+    none five =
+        let b = nat_lt max_input (length input) in
+        let v = x.plays.volume in
+        let cut = x.plays.cut in
+        let e = cut_off cut (restore_by v b (dumped_in input)) in
+        let done = answered x.plays.mets (session_over v) e.commands in
+        let made = restore_five v b (dumped_in input) cut x.plays.may x.plays.mets (sym five ∙ x.ends) in
+        let tail = behind_none e done (ends_cut cut x.plays.may (restore_by v b (dumped_in input)) (ends_none v b (dumped_in input)) done) in
+        x.files ∙ ap (fold step s) (changes_whole e done (if length done == length e.commands then (e.ends done).turns else blank ∷ []) tail ∙ ap changes_done made)
 
 pub restore_stops : (Shown : Image → Type 0) (input said : List ℕ) (s next : Files) → Stops Shown Asks.Restore input s said next → LoadsSome input s next
 restore_stops Shown input said s next (inl (fault, is)) = (0, is)

@@ -2,7 +2,7 @@
 use Rattle.std.proofs.Common.{◌≡◌, ◌⊎◌, inl, inr, ⊎_elim, ℕ, suc, ◌+◌, ◌-◌, ◌≤◌, List, [], ◌∷◌, ◌++◌, length, take, Option, Some, None, Result, Ok, Err, refl, sym, ap, subst, ◌∙◌, arith}
 use Rattle.std.specs.Prelude.{IsSome, nat_le, ◌^◌, slice_get}
 use Rattle.std.specs.List.{concat, fold}
-use Rattle.std.proofs.lemmas.List.{length-append, length-take-le, take_all}
+use Rattle.std.proofs.lemmas.List.{append-nil, length-append, length-take-le, take_all}
 use Rattle.std.proofs.lemmas.List.Sums.{fold-append}
 use Rattle.std.proofs.Math.Seq.{take-append-add, take-nil}
 use Rattle.fsd_bytes.specs.Names.{is_between}
@@ -32,20 +32,21 @@ use Rattle.fsd_sound.proofs.WindowLaws.{borne_narrow, last_snoc, open_is_weak}
 use Rattle.fsd_texts.specs.declared.fault.Fault.{Fault}
 use Rattle.fsd_texts.specs.declared.fault.Fault.TheVariants as Ended
 use Rattle.fsd_texts.specs.declared.script_command.ScriptCommand.{ScriptCommand}
+use Rattle.fsd_texts.specs.Text.{fault_text}
 use Rattle.fsd_runs.specs.declared.request.Request.{Request}
 use Rattle.fsd_runs.specs.declared.request.Request.TheVariants as Asks
 use Rattle.fsd_runs.specs.declared.span.Span.{Span}
 use Rattle.fsd_runs.specs.Dumps.{dump_of, span_of}
 use Rattle.fsd_runs.specs.Errands.{Answered, ByFault, ByRefusal, BySector, Cut, Damages, Errand, IfMounts, Turn, blank, fault_status}
-use Rattle.fsd_runs.specs.Leaves.{IsBrokenOff, IsReplied, IsSoundAsSaid, IsSpent, IsUnderWay, IsUndone, IsUnsaid, Left, LeftBefore, LeftByTurns, LeavesMounted, LeavesUnmounted, SaysNext, Unbegun, Whatever}
-use Rattle.fsd_runs.specs.Runs.{Goes, GoesSo, IsCutAt, IsDumpedSo, IsThrough, Starts, StoodAt, answered, changes_in, errand_in, run_end, run_status, run_turns}
+use Rattle.fsd_runs.specs.Leaves.{IsBrokenOff, IsOutside, IsReplied, IsSoundAsSaid, IsSpent, IsUnderWay, IsUndone, IsUnsaid, Left, LeftBefore, LeftByTurns, LeavesMounted, LeavesUnmounted, SaysNext, Unbegun, Whatever}
+use Rattle.fsd_runs.specs.Runs.{Goes, GoesSo, IsCutAt, IsDumpedSo, IsThrough, Starts, StoodAt, answered, changes_in, errand_in, run_end, run_status, run_turns, said_in}
 use Rattle.fsd_runs.specs.Sessions.{Meeting, answer_in, session_over}
 use Rattle.fsd_runs.proofs.LeaveLaws.{replied_held}
 use Rattle.cfs_program.specs.Formatting.{HoldsVolume, IsMadeBy}
 use Rattle.cfs_program.specs.Opening.{IsSoundDisk}
 use Rattle.cfs_program.specs.Program.{Ran, input_for}
 use Rattle.cfs_program.proofs.OpeningLaws.{said_disk}
-use Rattle.fsd_history.specs.History.{AreLives, DumpsSo, GoesOnAt, HasShown, IsDone, IsFresh, IsLeft, IsLife, IsOver, Life, Meets, Mounts, Plays, PlaysSo, Tells, TellsSo}
+use Rattle.fsd_history.specs.History.{AreLives, DumpsSo, GoesOnAt, HasShown, IsDone, IsFresh, IsLeft, IsLife, IsOver, IsSame, IsUnread, Life, Meets, Mounts, Plays, PlaysSo, Tells, TellsSo}
 
 -- ---- prefixes
 
@@ -175,22 +176,60 @@ module _ {D : Type 0} (M : Ghosts D) (x : Life D) (h : List Change) (f : ℕ) (l
 
   -- ---- where it was stopped
 
+  before_ready : (left : Moment) → LeftBefore l windows h f (M.now x.from) left → (d : D) → IsLeft M left d → Ready M h f d
+  before_ready left b d at = left_ready M h f left d (record {
+    layout = l;
+    windows = windows;
+    sound = record {
+      planned = disk.planned;
+      ends = record { last = disk.ends.last ∙ sym b.present; some = subst (λ (o : Option WeakRun). IsSome o) (sym b.present) disk.ends.some };
+      sound = b.sound;
+    };
+  }) at
+
   gone_before : (left : Moment) → LeftBefore l windows h f (M.now x.from) left → Gone M x (Some left) h f
   gone_before left b = record {
     changes = h;
     forced = f;
     few = sound_some l windows h f left.image b.sound;
-    ready = λ m at. left_ready M h f left m (record {
-      layout = l;
-      windows = windows;
-      sound = record {
-        planned = disk.planned;
-        ends = record { last = disk.ends.last ∙ sym b.present; some = subst (λ (o : Option WeakRun). IsSome o) (sym b.present) disk.ends.some };
-        sound = b.sound;
-      };
-    }) at;
+    ready = before_ready left b;
     tells = λ k prefix. (k, prefix, (b.part, b.said, inl (b.fault, refl)));
   }
+
+  -- ---- where its input failed
+
+  gone_unread : (b : LeftBefore l windows h f (M.now x.from) (M.now x.to)) → IsUnread x.request x.status → (M.now x.to).said ≡ (M.now x.from).said ++ fault_text Ended.Input → Gone M x None h f
+  gone_unread b unread said = record {
+    changes = h;
+    forced = f;
+    few = sound_some l windows h f (M.now x.to).image b.sound;
+    ready = λ d at. before_ready (M.now x.to) b d (at.1 unread);
+    tells = λ k prefix. (k, prefix, (fault_text Ended.Input, said, inr (record { unread = unread; says = refl; files = refl })));
+  }
+
+  -- such a fault is the input's, and stands alone
+  five_is : (why : Fault) → IsOutside x.request (M.report x.from) (M.report x.to) why → fault_status why ≡ 5 → why ≡ Ended.Input
+  five_is Ended.Input outside five = refl
+  five_is Ended.InputTooLong outside five = absurd outside
+  five_is Ended.NotVolume outside five = absurd (omega (arith, five))
+  five_is (Ended.Lost a b) outside five = absurd (omega (arith, five))
+  five_is Ended.NoAnchor outside five = absurd (omega (arith, five))
+  five_is (Ended.Unsound s) outside five = absurd (omega (arith, five))
+  five_is (Ended.Device s) outside five = absurd (omega (arith, five))
+  five_is Ended.Memory outside five = absurd (omega (arith, five))
+  five_is Ended.WornOut outside five = absurd (omega (arith, five))
+
+  abbrev Breaks : (Undone : ℕ → Image → Type 0) → (UnderWay : ℕ → Type 0) → List Turn → Type 0
+  Breaks Undone UnderWay turns = IsBrokenOff x.request Undone UnderWay (M.report x.from) (M.report x.to) turns (M.now x.from) (M.now x.to) x.status
+
+  input_failed : (Undone : ℕ → Image → Type 0) (UnderWay : ℕ → Type 0) (turns : List Turn) (b : Breaks Undone UnderWay turns) → x.status ≡ 5 → b.why ≡ Ended.Input
+  input_failed Undone UnderWay turns b five = five_is b.why b.outside (sym b.ends ∙ five)
+
+  fails_said : (Undone : ℕ → Image → Type 0) (UnderWay : ℕ → Type 0) (turns : List Turn) (b : Breaks Undone UnderWay turns) → b.why ≡ Ended.Input → b.says.whole ≡ 0 → (M.now x.to).said ≡ (M.now x.from).said ++ fault_text Ended.Input
+  fails_said Undone UnderWay turns b is none =
+      b.says.said
+      ∙ ap (λ (n : ℕ). (M.now x.from).said ++ (said_in (take n turns) ++ fault_text b.why)) none
+      ∙ ap (λ (why : Fault). (M.now x.from).said ++ fault_text why) is
 
   module _ (m : Mounted) where
     abbrev plays : Plays (HasShown M x.to) x.request input (after (take m.count h))
@@ -248,26 +287,16 @@ module _ {D : Type 0} (M : Ghosts D) (x : Life D) (h : List Change) (f : ℕ) (l
 
     -- ---- where it has ended
 
-    gone_replied : IsThrough m.run → IsReplied l windows m.next h m.count (run_turns m.run) (run_status m.run) (run_end m.run) (IsHeld M x.to) (M.now x.from) (M.now x.to) x.status → Gone M x None h f
-    gone_replied through r = record {
+    gone_replied : IsOver M x None → IsThrough m.run → IsReplied l windows m.next h m.count (run_turns m.run) (run_status m.run) (run_end m.run) (IsHeld M x.to) (M.now x.from) (M.now x.to) x.status → Gone M x None h f
+    gone_replied over through r = record {
       changes = all;
       forced = m.count + length cs;
       few = sound_some l (windows ++ m.next ∷ []) all (m.count + length cs) (M.now x.to).image r.sound;
-      ready = λ d same. record {
-        stands = record {
-          layout = l;
-          windows = windows ++ m.next ∷ [];
-          sound = record {
-            planned = disk.planned;
-            ends = ends_settled (M.now d).windows (same.windows ∙ r.settled);
-            sound = subst (λ (i : Image). IsSound l (windows ++ m.next ∷ []) all (m.count + length cs) i) (sym same.image) r.sound;
-          };
-        };
-        held = λ c is layout said.
-            let e = same.held c is in
-            subst (λ (i : Image). IsSound layout (windows ++ m.next ∷ []) all (m.count + length cs) i) (sym e.2)
-            (replied_held l windows m.next h m.count (run_turns m.run) (run_status m.run) (run_end m.run) (M.now x.from) (M.now x.to) e.0 x.status (of_one e.0 e.1) layout (subst (λ (i : Image). IsSaid l i layout) same.image said));
-      };
+      ready = λ d at. ⊎_elim (λ done. same_ready d (at.0 done)) (λ unread. left_ready M all (m.count + length cs) (M.now x.to) d (record {
+        layout = l;
+        windows = windows ++ m.next ∷ [];
+        sound = record { planned = disk.planned; ends = ends_settled (M.now x.to).windows r.settled; sound = r.sound };
+      }) (at.1 unread)) over;
       tells = λ k prefix.
           let forced = prefix.forced in
           let made = prefix.made in
@@ -279,13 +308,13 @@ module _ {D : Type 0} (M : Ghosts D) (x : Life D) (h : List Change) (f : ℕ) (l
             (
               _,
               r.said,
-              record {
+              inl (record {
                 plays = plays;
                 through = through;
                 says = refl;
                 ends = r.ends;
                 files = more_taken m.count (length cs) k h cs m.prefix.made found ∙ ap (fold step (after (take m.count h))) (take_all (length cs) cs (omega arith));
-              },
+              }),
             ),
           );
     }
@@ -299,6 +328,60 @@ module _ {D : Type 0} (M : Ghosts D) (x : Life D) (h : List Change) (f : ℕ) (l
         of_one : (c : Moment) → M.left_since x.to (M.now x.to).synced c → IsReplied l windows m.next h m.count (run_turns m.run) (run_status m.run) (run_end m.run) (λ P. P c) (M.now x.from) (M.now x.to) x.status
         of_one c is = record { ends = r.ends; said = r.said; settled = r.settled; sound = r.sound; held = r.held c is; tells = r.tells; roots = r.roots; rooted = r.rooted c is }
 
+        same_ready : (d : D) → IsSame M x.to d → Ready M (take m.count h ++ changes_in (run_turns m.run)) (m.count + length (changes_in (run_turns m.run))) d
+        same_ready d same = record {
+          stands = record {
+            layout = l;
+            windows = windows ++ m.next ∷ [];
+            sound = record {
+              planned = disk.planned;
+              ends = ends_settled (M.now d).windows (same.windows ∙ r.settled);
+              sound = subst (λ (i : Image). IsSound l (windows ++ m.next ∷ []) all (m.count + length cs) i) (sym same.image) r.sound;
+            };
+          };
+          held = λ c is layout said.
+              let e = same.held c is in
+              subst (λ (i : Image). IsSound layout (windows ++ m.next ∷ []) all (m.count + length cs) i) (sym e.2)
+              (replied_held l windows m.next h m.count (run_turns m.run) (run_status m.run) (run_end m.run) (M.now x.from) (M.now x.to) e.0 x.status (of_one e.0 e.1) layout (subst (λ (i : Image). IsSaid l i layout) same.image said));
+        }
+
+    abbrev Undone : ℕ → Image → Type 0
+    Undone whole i = IsUndone l (windows ++ m.next ∷ []) (take m.count h) m.count (run_turns m.run) whole i
+
+    abbrev UnderWay : ℕ → Type 0
+    UnderWay whole = IsUnderWay l (windows ++ m.next ∷ []) (take m.count h) m.count (run_turns m.run) (IsHeld M x.to) whole
+
+    gone_failed : IsUnread x.request x.status → Breaks Undone UnderWay (run_turns m.run) → Gone M x None h f
+    gone_failed unread b = record {
+      changes = take m.count h;
+      forced = m.count + u.forced;
+      few = sound_some l (windows ++ m.next ∷ []) (take m.count h) (m.count + u.forced) (M.now x.to).image sound;
+      ready = λ d at. left_ready M (take m.count h) (m.count + u.forced) (M.now x.to) d (record {
+        layout = l;
+        windows = windows ++ m.next ∷ [];
+        sound = record { planned = disk.planned; ends = ends_settled (M.now x.to).windows m.exit.settled; sound = sound };
+      }) (at.1 unread);
+      tells = λ k prefix.
+          let forced = prefix.forced in
+          let taken = length-take-le m.count h m.prefix.made in (
+            m.count,
+            m.prefix,
+            (fault_text Ended.Input, fails_said Undone UnderWay (run_turns m.run) b is none.0, inr (record { unread = unread; says = refl; files = ap after (take_all k (take m.count h) (omega (arith, forced, taken))) })),
+          );
+    }
+      where
+        is : b.why ≡ Ended.Input
+        is = input_failed Undone UnderWay (run_turns m.run) b unread.1
+
+        none : (b.says.whole ≡ 0) × Undone b.says.whole (M.now x.to).image
+        none = b.unread is
+
+        u : Undone 0 (M.now x.to).image
+        u = subst (λ (whole : ℕ). Undone whole (M.now x.to).image) none.0 none.1
+
+        sound : IsSound l (windows ++ m.next ∷ []) (take m.count h) (m.count + u.forced) (M.now x.to).image
+        sound = subst (λ (cs : List Change). IsSound l (windows ++ m.next ∷ []) cs (m.count + u.forced) (M.now x.to).image) (append-nil (take m.count h)) u.sound
+
   fault_other : (why : Fault) → IsDone (fault_status why) → ⊥
   fault_other Ended.NotVolume done = ⊎_elim (λ low. omega (arith, low)) (λ is. omega (arith, is)) done
   fault_other (Ended.Lost a b) done = ⊎_elim (λ low. omega (arith, low)) (λ is. omega (arith, is)) done
@@ -310,25 +393,29 @@ module _ {D : Type 0} (M : Ghosts D) (x : Life D) (h : List Change) (f : ℕ) (l
   fault_other Ended.Memory done = ⊎_elim (λ low. omega (arith, low)) (λ is. omega (arith, is)) done
   fault_other Ended.WornOut done = ⊎_elim (λ low. omega (arith, low)) (λ is. omega (arith, is)) done
 
-  unsaid_other : x.status ≡ 6 → IsDone x.status → ⊥
-  unsaid_other six done = ⊎_elim (λ low. omega (arith, six, low)) (λ is. omega (arith, six, is)) done
+  -- nor is it the output's, or one of epochs that are used up, where it ended
+  over_not : (n : ℕ) → x.status ≡ n → (n ≡ 6) ⊎ (n ≡ 9) → IsOver M x None → ⊥
+  over_not n is bad (inl done) = ⊎_elim (λ six. ⊎_elim (λ low. omega (arith, is, six, low)) (λ eight. omega (arith, is, six, eight)) done) (λ nine. ⊎_elim (λ low. omega (arith, is, nine, low)) (λ eight. omega (arith, is, nine, eight)) done) bad
+  over_not n is bad (inr unread) = let five = unread.1 in ⊎_elim (λ six. omega (arith, is, six, five)) (λ nine. omega (arith, is, nine, five)) bad
 
-  done_not : IsDone x.status → (Undone : ℕ → Image → Type 0) (UnderWay : ℕ → Type 0) (turns : List Turn) → IsUnsaid (M.report x.from) (M.report x.to) x.status ⊎ IsBrokenOff x.request Undone UnderWay (M.report x.from) (M.report x.to) turns (M.now x.from) (M.now x.to) x.status → ⊥
-  done_not done Undone UnderWay turns (inl unsaid) = unsaid_other unsaid.ends done
-  done_not done Undone UnderWay turns (inr broken) = fault_other broken.why (subst IsDone broken.ends done)
-
-  gone_ended : IsDone x.status → Unmounted ⊎ Mounted → Gone M x None h f
-  gone_ended done (inl u) = by u.ends
+  gone_ended : IsOver M x None → Unmounted ⊎ Mounted → Gone M x None h f
+  gone_ended over (inl u) = by u.ends over
     where
-      by : IsSpent (M.now x.from) (M.now x.to) x.status ⊎ (IsUnsaid (M.report x.from) (M.report x.to) x.status ⊎ IsBrokenOff x.request Unbegun Whatever (M.report x.from) (M.report x.to) (blank ∷ []) (M.now x.from) (M.now x.to) x.status) → Gone M x None h f
-      by (inl spent) = absurd (fault_other Ended.WornOut (subst IsDone spent.ends done))
-      by (inr other) = absurd (done_not done Unbegun Whatever (blank ∷ []) other)
-  gone_ended done (inr m) = by m.ends
+      by : IsSpent (M.now x.from) (M.now x.to) x.status ⊎ (IsUnsaid (M.report x.from) (M.report x.to) x.status ⊎ Breaks Unbegun Whatever (blank ∷ [])) → IsOver M x None → Gone M x None h f
+      by (inl spent) over = absurd (over_not 9 spent.ends (inr refl) over)
+      by (inr (inl unsaid)) over = absurd (over_not 6 unsaid.ends (inl refl) over)
+      by (inr (inr broken)) (inl done) = absurd (fault_other broken.why (subst IsDone broken.ends done))
+      by (inr (inr broken)) (inr unread) =
+          let is = input_failed Unbegun Whatever (blank ∷ []) broken unread.1 in
+          gone_unread u.exit unread (fails_said Unbegun Whatever (blank ∷ []) broken is (broken.unread is).0)
+  gone_ended over (inr m) = by m.ends over
     where
       by : (IsThrough m.run × IsReplied l windows m.next h m.count (run_turns m.run) (run_status m.run) (run_end m.run) (IsHeld M x.to) (M.now x.from) (M.now x.to) x.status)
-          ⊎ (IsUnsaid (M.report x.from) (M.report x.to) x.status ⊎ IsBrokenOff x.request (IsUndone l (windows ++ m.next ∷ []) (take m.count h) m.count (run_turns m.run)) (IsUnderWay l (windows ++ m.next ∷ []) (take m.count h) m.count (run_turns m.run) (IsHeld M x.to)) (M.report x.from) (M.report x.to) (run_turns m.run) (M.now x.from) (M.now x.to) x.status) → Gone M x None h f
-      by (inl (through, replied)) = gone_replied m through replied
-      by (inr other) = absurd (done_not done (IsUndone l (windows ++ m.next ∷ []) (take m.count h) m.count (run_turns m.run)) (IsUnderWay l (windows ++ m.next ∷ []) (take m.count h) m.count (run_turns m.run) (IsHeld M x.to)) (run_turns m.run) other)
+          ⊎ (IsUnsaid (M.report x.from) (M.report x.to) x.status ⊎ Breaks (Undone m) (UnderWay m) (run_turns m.run)) → IsOver M x None → Gone M x None h f
+      by (inl (through, replied)) over = gone_replied m over through replied
+      by (inr (inl unsaid)) over = absurd (over_not 6 unsaid.ends (inl refl) over)
+      by (inr (inr broken)) (inl done) = absurd (fault_other broken.why (subst IsDone broken.ends done))
+      by (inr (inr broken)) (inr unread) = gone_failed m unread broken
 
   gone_left : (left : Moment) → Unmounted ⊎ Mounted → stops M x.to (M.moment x.from) left → Gone M x (Some left) h f
   gone_left left (inl u) is = gone_before left (u.moments.each left is)

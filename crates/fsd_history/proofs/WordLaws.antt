@@ -24,14 +24,14 @@ use Rattle.fsd_texts.specs.Script.{max_input}
 use Rattle.fsd_runs.specs.declared.request.Request.{Request}
 use Rattle.fsd_runs.specs.declared.request.Request.TheVariants as Asks
 use Rattle.fsd_runs.specs.Commands.{changes_of, reply_alone, reply_status}
-use Rattle.fsd_runs.specs.Errands.{Cut, Errand, MayCut, Turn, blank, errand_alone, nothing_but}
-use Rattle.fsd_runs.specs.Runs.{answered, changes_in, errand_in, said_in, turns_of}
+use Rattle.fsd_runs.specs.Errands.{Answered, Cut, Errand, MayCut, Turn, blank, errand_alone, nothing_but}
+use Rattle.fsd_runs.specs.Runs.{answered, changes_in, errand_in, said_in, turns_of, turns_with}
 use Rattle.fsd_runs.specs.Sessions.{Meeting, session_over}
 use Rattle.cfs_program.specs.Drill.{list_text}
 use Rattle.cfs_program.specs.Program.{input_for}
 use Rattle.cfs_program.proofs.LifeLaws.{IsPutReply, all_versions, answered_once, list_is, listing, put_reply, reply_to, turn_for}
-use Rattle.fsd_history.proofs.DumpLaws.{dump_ends, dump_stops, restore_ends, restore_stops}
-use Rattle.fsd_history.specs.History.{Ends, EndsPlainly, HasShown, Life, Meets, PlainlySo, Plays, SaysVersion, Stops, StopsPlainly, Tells, TellsPlainly, TellsSo, turns_in}
+use Rattle.fsd_history.proofs.DumpLaws.{answered_none, dump_ends, dump_stops, restore_ends, restore_stops}
+use Rattle.fsd_history.specs.History.{Ends, EndsPlainly, Fails, HasShown, Life, Meets, PlainlySo, Plays, SaysVersion, Stops, StopsPlainly, Tells, TellsPlainly, TellsSo, turns_in}
 
 -- ---- one command
 
@@ -151,6 +151,29 @@ module _ (name : List ℕ) (keep : Option ℕ) (input : List ℕ) where
   pub put_refused : (Shown : Image → Type 0) (said : List ℕ) (s next : Files) (status : ℕ) → Ends Shown (Asks.Put name keep) input s said status next → status ≡ 1 → next ≡ s
   put_refused Shown said s next status x one = let p = x.plays in x.files ∙ ap (fold step s) (put_refuses p.cut p.may p.mets p.volume x.through (sym one ∙ x.ends))
 
+  -- its input was too long, or it was refused or made
+  put_unless : (b : Bool) (mets : List Meeting) (v : Volume) → length mets ≡ length (put_or b).commands → 5 ≡ ((put_or b).ends (answered mets (session_over v) (put_or b).commands)).status
+      → changes_in (turns_of (put_or b) mets (session_over v)) ≡ []
+  put_unless true mets v through five = ap (λ (done : List Answered). changes_in (turns_with (put_or true) done)) (answered_none mets (session_over v))
+  put_unless false mets v through five =
+      let once = answered_once the_put v mets through in
+      let met = once.0 in
+      let status = once.1.status in
+      absurd (either (reply_to the_put v met) (put_reply met.met name input keep v) (five ∙ status))
+    where
+      either : (reply : Reply) → IsPutReply reply → 5 ≡ reply_status reply → ⊥
+      either reply (inl (why, is)) five = let one : reply_status reply ≡ 1 = ap reply_status is in omega (arith, five, one)
+      either reply (inr (key, sectors, is)) five = let nought : reply_status reply ≡ 0 = ap reply_status is in omega (arith, five, nought)
+
+  put_fails : (cut : Cut) → MayCut (Asks.Put name keep) cut → (mets : List Meeting) (v : Volume) → length mets ≡ length (errand_in (Asks.Put name keep) input cut v).commands
+      → 5 ≡ ((errand_in (Asks.Put name keep) input cut v).ends (answered mets (session_over v) (errand_in (Asks.Put name keep) input cut v).commands)).status
+      → changes_in (turns_of (errand_in (Asks.Put name keep) input cut v) mets (session_over v)) ≡ []
+  put_fails None may mets v through five = put_unless (nat_lt max_input (length input)) mets v through five
+  put_fails (Some x) may mets v through five = absurd may
+
+  pub put_unread : (Shown : Image → Type 0) (said : List ℕ) (s next : Files) (status : ℕ) → Ends Shown (Asks.Put name keep) input s said status next → status ≡ 5 → next ≡ s
+  put_unread Shown said s next status x five = let p = x.plays in x.files ∙ ap (fold step s) (put_fails p.cut p.may p.mets p.volume x.through (sym five ∙ x.ends))
+
   put_ends : (cut : Cut) → MayCut (Asks.Put name keep) cut → (mets : List Meeting) (v : Volume) → length mets ≡ length (errand_in (Asks.Put name keep) input cut v).commands
       → 0 ≡ ((errand_in (Asks.Put name keep) input cut v).ends (answered mets (session_over v) (errand_in (Asks.Put name keep) input cut v).commands)).status
       → changes_in (turns_of (errand_in (Asks.Put name keep) input cut v) mets (session_over v)) ≡ the_change ∷ []
@@ -219,11 +242,17 @@ module _ {D : Type 0} (M : Ghosts D) (name : List ℕ) (keep : Option ℕ) where
       let stops = subst (λ (r : Request). Stops (HasShown M x.to) r (input_for r (M.ledger x.from).input) s so.0 next) asks so.2 in
       put_stops name keep (M.ledger x.from).input (HasShown M x.to) so.0 s next stops
 
+  abbrev EndsOrFails : Life D → Files → (next : Files) → (said : List ℕ) → Request → Type 0
+  EndsOrFails y s next said r = Ends (HasShown M y.to) r (input_for r (M.ledger y.from).input) s said y.status next ⊎ Fails r s said y.status next
+
+  list_ends : (y : Life D) (s next : Files) (said : List ℕ) → EndsOrFails y s next said (Asks.One all_versions) → said ≡ list_text s
+  list_ends y s next said (inl ends) = (list_says (HasShown M y.to) [] said s next y.status ends).0
+  list_ends y s next said (inr fails) = absurd fails.unread.0
+
   so_listed : (y : Life D) (s next : Files) → y.request ≡ Asks.One all_versions → y.stop ≡ None → TellsSo M y y.stop s next → Says y s
   so_listed y s next asks stop tells =
       let so = subst (λ (o : Option Moment). TellsSo M y o s next) stop tells in
-      let ends = subst (λ (r : Request). Ends (HasShown M y.to) r (input_for r (M.ledger y.from).input) s so.0 y.status next) asks so.2 in
-      so.1 ∙ ap (λ (x : List ℕ). (M.now y.from).said ++ x) (list_says (HasShown M y.to) [] so.0 s next y.status ends).0
+      so.1 ∙ ap (λ (x : List ℕ). (M.now y.from).said ++ x) (list_ends y s next so.0 (subst (EndsOrFails y s next so.0) asks so.2))
 
   pub put_listed : (x y : Life D) (left : Moment) → x.request ≡ Asks.Put name keep → x.stop ≡ Some left → y.request ≡ Asks.One all_versions → y.stop ≡ None → Tells M [] (x ∷ y ∷ [])
       → Says y [] ⊎ Says y (step [] (Change.Put name keep (M.ledger x.from).input))
@@ -261,12 +290,17 @@ module _ (command : Command) (still : (reply : Reply) → changes_of command rep
 
 ends_plainly : (Shown : Image → Type 0) (request : Request) (input said : List ℕ) (s next : Files) (status : ℕ) → Ends Shown request (input_for request input) s said status next → EndsPlainly request input s said status next
 ends_plainly Shown (Asks.Put name keep) input said s next status x =
-    (λ nought. put_found name keep input Shown said s next (subst (λ (n : ℕ). Ends Shown (Asks.Put name keep) input s said n next) nought x), put_refused name keep input Shown said s next status x)
+    (λ nought. put_found name keep input Shown said s next (subst (λ (n : ℕ). Ends Shown (Asks.Put name keep) input s said n next) nought x), put_refused name keep input Shown said s next status x, put_unread name keep input Shown said s next status x)
 ends_plainly Shown (Asks.One (Word.Get key)) input said s next status x = get_says Shown key [] said s next status x
 ends_plainly Shown (Asks.One (Word.List pattern)) input said s next status x = pattern_says Shown pattern [] said s next status x
 ends_plainly Shown (Asks.Dump since most) input said s next status x = dump_ends Shown since most said s next status x
 ends_plainly Shown Asks.Restore input said s next status x = restore_ends Shown input said s next status x
 ends_plainly Shown request input said s next status x = tt
+
+fails_plainly : (request : Request) (input said : List ℕ) (s next : Files) (status : ℕ) → Fails request s said status next → EndsPlainly request input s said status next
+fails_plainly (Asks.Put name keep) input said s next status x = let five = x.unread.1 in (λ nought. absurd (omega (arith, nought, five)), λ one. x.files, λ is. x.files)
+fails_plainly Asks.Restore input said s next status x = let five = x.unread.1 in (λ nought. absurd (omega (arith, nought, five)), λ is. x.files, (0, x.files))
+fails_plainly request input said s next status x = absurd x.unread.0
 
 stops_plainly : (Shown : Image → Type 0) (request : Request) (input said : List ℕ) (s next : Files) → Stops Shown request (input_for request input) s said next → StopsPlainly request input s next
 stops_plainly Shown (Asks.Put name keep) input said s next x = put_stops name keep input Shown said s next x
@@ -278,7 +312,8 @@ stops_plainly Shown request input said s next x = tt
 
 module _ {D : Type 0} (M : Ghosts D) where
   so_plainly : (x : Life D) (stop : Option Moment) (s next : Files) → TellsSo M x stop s next → PlainlySo M x stop s next
-  so_plainly x None s next (said, is, ends) = (said, is, ends_plainly (HasShown M x.to) x.request (M.ledger x.from).input said s next x.status ends)
+  so_plainly x None s next (said, is, inr fails) = (said, is, fails_plainly x.request (M.ledger x.from).input said s next x.status fails)
+  so_plainly x None s next (said, is, inl ends) = (said, is, ends_plainly (HasShown M x.to) x.request (M.ledger x.from).input said s next x.status ends)
   so_plainly x (Some left) s next (said, is, stops) = stops_plainly (HasShown M x.to) x.request (M.ledger x.from).input said s next stops
 
   pub all_plainly : (xs : List (Life D)) (s : Files) → Tells M s xs → TellsPlainly M s xs
