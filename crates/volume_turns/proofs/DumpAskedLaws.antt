@@ -1,6 +1,6 @@
 -- A dump by the span that is asked for, where none of it is said: a fault has come before it, or so many bytes are too few.
-use Rattle.std.proofs.Common.{◌≡◌, ◌⊎◌, inl, inr, Bool, ℕ, false, List, [], ◌∷◌, ◌++◌, map, take, Option, Some, None, refl, sym, ◌∙◌, ap, subst, arith}
-use Rattle.std.specs.Prelude.{IsSome, IsTrue, Result, Ok, Err, slice_get}
+use Rattle.std.proofs.Common.{◌≡◌, ◌⊎◌, inl, inr, Bool, ℕ, false, List, [], ◌++◌, map, take, Option, None, refl, sym, ◌∙◌, subst}
+use Rattle.std.specs.Prelude.{IsSome, Result, Ok, Err, slice_get}
 use Rattle.std.proofs.lemmas.List.{append-nil}
 use Rattle.std.proofs.lemmas.Bool.{eq-eqb}
 use Rattle.sector_disk.specs.declared.machine.Machine.{Ghosts}
@@ -15,7 +15,6 @@ use Rattle.fsd_files.specs.Volume.{Volume}
 use Rattle.fsd_log.specs.Scan.{Placed}
 use Rattle.fsd_sound.specs.Mounted.{Mounted}
 use Rattle.fsd_texts.specs.declared.fault.Fault.{Fault}
-use Rattle.fsd_texts.specs.declared.line.Line.{Line}
 use Rattle.fsd_texts.specs.declared.line.Line.TheVariants as Says
 use Rattle.fsd_texts.specs.Text.{fault_text, text}
 use Rattle.fsd_runs.specs.declared.request.Request.TheVariants.{Dump}

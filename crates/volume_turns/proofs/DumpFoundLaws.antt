@@ -23,7 +23,6 @@ use Rattle.fsd_texts.specs.Text.{text}
 use Rattle.fsd_runs.specs.declared.request.Request.TheVariants.{Dump}
 use Rattle.fsd_runs.specs.declared.span.Span.{Span}
 use Rattle.fsd_runs.specs.Dumps.{span_of}
-use Rattle.fsd_runs.specs.Errands.{fault_status}
 use Rattle.scrub.specs.Telling.{StandTwice, TellsOn}
 use Rattle.volume_contract.specs.Ends.{device_of}
 use Rattle.volume_contract.specs.Order.{Comes, IsLookUp, next_steps}

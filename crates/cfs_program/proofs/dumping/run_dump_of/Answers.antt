@@ -18,7 +18,7 @@ returns-in-Ok g c =
     let does = c.run_dump.ensures in
     let status = c.run_dump.result in
     let x : RunsFound M c.args.path.now c.in-Ok.sectors a b z = record { finds = c.in-Ok.ensures.found; runs = does.ends.trust } in
-    let dump = Dump c.args.since in
+    let dump = Dump c.args.since c.args.most in
     let counts = found_counts x status does.takes.counts in
     let image : M.honest z → TellsFound Parts StandTwice None (M.now a) (M.now z) status = λ h. found_image x Parts StandTwice None status h (does.image h) in
     record {
@@ -55,4 +55,4 @@ returns-in-Ok g c =
     }
 
 pub returns-in-Err : goal.returns-in-Err
-returns-in-Err g c = c.in-Err.ensures.ran (Dump c.args.since)
+returns-in-Err g c = c.in-Err.ensures.ran (Dump c.args.since c.args.most)

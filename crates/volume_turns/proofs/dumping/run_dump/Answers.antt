@@ -1,4 +1,4 @@
-use Rattle.std.proofs.Common.{inr, None, refl}
+use Rattle.std.proofs.Common.{inr, None}
 use Rattle.fsd_runs.specs.declared.request.Request.TheVariants.{Dump}
 use Rattle.fsd_runs.specs.Dumps.{span_of}
 use Rattle.fsd_runs.specs.Sessions.{session_over}
