@@ -1,5 +1,5 @@
 //! The span of a dump that has so many bytes at most.
-ghost use Rattle.std.specs.Prelude.{◌≡◌, ◌≤◌, ◌<◌, ◌^◌, ◌++◌, ◌∷◌, [], All, None, true, IfErr, OnErr, OnOk};
+ghost use Rattle.std.specs.Prelude.{◌≡◌, ◌≤◌, ◌<◌, ◌^◌, ◌++◌, ◌∷◌, [], All, None, true, IfErr, IfOk, OnErr, OnOk};
 ghost use Rattle.sector_disk.specs.Calls.{device_in};
 ghost use Rattle.fsd_formats.specs.NamePage.{is_entry};
 ghost use Rattle.volume_contract.specs.Ends.{device_of};
@@ -94,6 +94,7 @@ pub fn span_in<M: Machine, V: Files<M>>(
 ) -> Result<Span, Refusal>
     requires { (V.state v.old).layout.sectors ≤ (M.report m.old).sectors }
     ensures order { FollowsSpan (V.state v.old) most result }
+    ensures behind { IfOk result (λ span. span.since ≡ since) }
     ensures reads { ReadsVolume M.Machine V.state V.holds (device_in device_of result) v.old v.new m.old m.new }
     ensures tells { IfErr result (λ why. M.honest m.new → TellsOn (V.state v.old).layout (M.now m.new).image why) }
     ensures done { M.honest m.new → (k : Known) → Stands V.state V.holds v.old k (M.now m.old) → EndsSpan since most (volume_of k).entries result }
