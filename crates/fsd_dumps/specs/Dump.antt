@@ -32,7 +32,7 @@ head_bytes count latest = codes "CFSD" ++ (u32 count ++ (u32 latest.epoch ++ u32
 abbrev pub end_bytes : (count : ℕ) → List ℕ
 end_bytes count = codes "CFSE" ++ u32 count
 
--- the greatest serial of all versions of the volume, and some of its versions
+-- some versions of a volume, and a serial that is told
 abbrev pub dump_bytes : Serial → List Dumped → List ℕ
 dump_bytes latest items = head_bytes (length items) latest ++ (flat_map item_bytes items ++ end_bytes (length items))
 
