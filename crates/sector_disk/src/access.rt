@@ -54,6 +54,7 @@ pub fn extend_image<M: Machine>(m: &mut M, sectors: u32) -> Result<(), Failed>
     ensures grows { GrowsDisk M.Machine (device_in failed_at result) (Grows sectors) m.old m.new }
     ensures place { IfErr result (λ failed. failed.place ≡ 0) }
     ensures sectors { OnOk result ((M.report m.new).sectors ≡ max (M.report m.old).sectors sectors) }
+    ensures sectors_err { OnErr result ((M.report m.new).sectors ≡ (M.report m.old).sectors) }
     ensures ledger { M.tells m.new → M.ledger m.new ≡ M.ledger m.old }
     ensures synced { OnOk result (M.honest m.new → IsSynced (M.now m.new)) }
     ensures done { OnOk result (M.honest m.new → Extends sectors (M.now m.old) (M.now m.new)) }
