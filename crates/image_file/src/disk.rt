@@ -227,7 +227,7 @@ impl Disk {
         };
         let next = u64::from(told.max(asked));
         self.standing = Standing::Unsynced { first: told, next };
-        image.widen(told, asked)
+        image.widen(&self.standing, told, asked)
     }
 
     // Lets go of the image, all of which is on the disk.

@@ -1,9 +1,11 @@
 //! The file of an image: found or made, locked, and never one of the standard three.
-ghost use Rattle.std.specs.Prelude.{◌≡◌, ◌*◌, ◌/◌, ◌^◌, ◌-◌, min, pos, ◌<ℤ◌, IfOk};
+ghost use Rattle.std.specs.Prelude.{◌≡◌, ◌*◌, ◌/◌, ◌^◌, ◌-◌, min, max, pos, ◌<ℤ◌, IfOk};
 ghost use Rattle.sector_disk.specs.Machine.{GivesAsked};
 ghost use Rattle.std.specs.Fd.{file_raw_fd};
+ghost use Rattle.image_file.specs.declared.standing.Standing.TheVariants.{Unsynced};
 
 use crate::slot::SLOT_BYTES;
+use crate::standing::Standing;
 use sector_disk::Attach;
 use std::fs::{File, OpenOptions};
 use std::io;
@@ -113,8 +115,11 @@ impl ImageFile {
     }
 
     /// Puts slots of zeros behind those that are told, up to as many as are asked for. What followed the last one is gone
-    /// then. Where there are as many already, nothing is changed.
-    pub(crate) fn widen(&self, told: u32, asked: u32) -> io::Result<()> {
+    /// then. Where there are as many already, nothing is changed. They are told as a run that is not on the disk, which is
+    /// `_run`.
+    pub(crate) fn widen(&self, _run: &Standing, told: u32, asked: u32) -> io::Result<()>
+        requires { _run.now ≡ Unsynced told (max told asked) }
+    {
         if asked <= told {
             return Ok(());
         }

@@ -21,7 +21,7 @@ pub enum When {
 #[derive(Clone, Copy)]
 pub enum Event {
     /// This call of all fails. If it is a write, its first `stand` sectors stand, or all where it has no more. If it is
-    /// a `take` or a `say`, nothing is taken or said.
+    /// a `take`, a `say` or an `extend`, nothing is taken, said or put behind the image.
     FailCall { call: u64, stand: u32 },
     /// The nth write that begins at the sector `first` fails, with its first `stand` sectors standing.
     FailIn { first: u32, nth: u32, stand: u32 },
