@@ -229,7 +229,8 @@ fn an_image_grows(rt: HostRuntime) -> Result<(), Fail> {
         assert_eq!(rt; read, (seen, repeated(byte)));
     }
     // all of the slot behind the last one but its last byte, which is a zero
-    file.extend_from_slice(&slot_of(7, &filled(255, 0))[..SLOT_BYTES - 1])?;
+    file.extend_from_slice(&slot_of(7, &filled(255, 0)))?;
+    let _zero = file.pop();
     fs::write(&rt, GROWN, file)?;
     grow_behind(&rt, &mut FileMachine::new(&rt))?;
     assert_eq!(rt; fs::read(&rt, GROWN)?.len(), 8 * SLOT_BYTES);
