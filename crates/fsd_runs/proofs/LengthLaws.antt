@@ -16,7 +16,8 @@ use Rattle.fsd_files.specs.Kept.{Lists}
 use Rattle.fsd_files.specs.Volume.{Volume}
 use Rattle.fsd_files.proofs.LoadLaws.{found_there}
 use Rattle.fsd_runs.specs.declared.span.Span.{Span}
-use Rattle.fsd_runs.specs.Dumps.{bytes_found, chosen, dump_length, dump_of, dumped_of, is_in_span, latest_of, made_before}
+use Rattle.fsd_runs.specs.declared.span.Weight.{Weight}
+use Rattle.fsd_runs.specs.Dumps.{bytes_found, chosen, dump_length, dump_of, dumped_of, is_in_span, latest_of, made_before, weight_of}
 
 -- ---- of a dump of some versions
 
@@ -62,13 +63,13 @@ all_have files (y ∷ s) (e ∷ entries) found lists =
       all_have files s entries found.1 lists.1,
     )
 
-sums_same : (files : Files) (entries : List Entry) → AllByRecursion (HasBytes files) entries → sum_by item_length (map (dumped_of files) entries) ≡ sum_by (λ e. 12 + length e.key.name + e.length) entries
+sums_same : (files : Files) (entries : List Entry) → AllByRecursion (HasBytes files) entries → sum_by item_length (map (dumped_of files) entries) ≡ sum_by (λ w. w.bytes) (map weight_of entries)
 sums_same files [] have = refl
 sums_same files (e ∷ entries) have =
     let one = have.0 in
     let more = sums_same files entries have.1 in
     let first = sum_by-cons item_length (dumped_of files e) (map (dumped_of files) entries) in
-    let second = sum_by-cons (λ x. 12 + length x.key.name + x.length) e entries in
+    let second = sum_by-cons (λ (w : Weight). w.bytes) (weight_of e) (map weight_of entries) in
     omega (arith, one, more, first, second)
 
 -- a dump of a volume whose entries are those of its files has so many bytes

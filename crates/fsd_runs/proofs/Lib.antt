@@ -14,6 +14,7 @@ pub mod RunLaws
 pub mod SafeLaws
 pub mod SessionExamples
 pub mod SessionLaws
+pub mod SerialLaws
 pub mod SpanLaws
 pub mod StatusLaws
 pub mod WordExamples

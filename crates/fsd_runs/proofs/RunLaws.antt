@@ -1,7 +1,7 @@
 -- What the answers of a run do to the files and to what is forced.
-use Rattle.std.proofs.Common.{◌≡◌, ℕ, ◌+◌, ◌≤◌, Bool, true, false, cond, List, [], ◌∷◌, length, map, refl, sym, ap, ◌∙◌, arith}
+use Rattle.std.proofs.Common.{◌≡◌, ℕ, ◌+◌, ◌≤◌, Bool, true, false, cond, List, [], ◌∷◌, ◌++◌, length, map, refl, sym, ap, ◌∙◌, arith}
 use Rattle.std.specs.Prelude.{◌||◌, fold}
-use Rattle.std.specs.List.{list_any}
+use Rattle.std.specs.List.{concat, list_any}
 use Rattle.std.proofs.lemmas.List.{length-append}
 use Rattle.fsd_files.proofs.HistoryLaws.{fold_both}
 use Rattle.fsd_files.specs.Desk.{Session}
@@ -11,8 +11,8 @@ use Rattle.fsd_texts.specs.declared.command.Command.{Command}
 use Rattle.fsd_texts.specs.declared.script_command.ScriptCommand.{ScriptCommand}
 use Rattle.fsd_texts.specs.declared.script_command.ScriptCommand.TheVariants.{Plain}
 use Rattle.fsd_runs.specs.Commands.{answer}
-use Rattle.fsd_runs.specs.Errands.{Answered, Errand, Turn, answered_so, is_forced}
-use Rattle.fsd_runs.specs.Runs.{answered, session_behind, changes_in, forced_in, turn_of, turns_begun, volume_answered, volume_behind}
+use Rattle.fsd_runs.specs.Errands.{Answered, Errand, Turn, answered_so, is_forced, said_turn}
+use Rattle.fsd_runs.specs.Runs.{answered, session_behind, changes_in, forced_in, said_in, turn_of, turns_begun, volume_answered, volume_behind}
 use Rattle.fsd_runs.specs.Sessions.{Meeting, answer_in, changes_in_session}
 use Rattle.fsd_runs.proofs.SessionLaws.{all_forced, command_follows, command_grows}
 
@@ -108,3 +108,15 @@ answered_alone [] s commands = refl
 answered_alone (x ∷ xs) s [] = refl
 answered_alone (x ∷ xs) s (command ∷ commands) =
     ap (λ (more : List Answered). answered_so s (Plain command) (answer x.met s.volume command).0 ∷ more) (answered_alone xs (record s { volume = (answer x.met s.volume command).1 }) commands)
+
+-- ---- of no commands
+
+pub answered_none : (xs : List Meeting) (s : Session) → answered xs s [] ≡ []
+answered_none [] s = refl
+answered_none (x ∷ xs) s = refl
+
+-- ---- turns that say parts
+
+pub said_parts : (parts : List (List ℕ)) → said_in (map said_turn parts) ≡ concat parts
+said_parts [] = refl
+said_parts (part ∷ parts) = ap (λ (bytes : List ℕ). part ++ bytes) (said_parts parts)

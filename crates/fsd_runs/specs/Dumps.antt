@@ -16,6 +16,7 @@ use Rattle.fsd_files.specs.Kept.{IsWhole, data_sectors}
 use Rattle.fsd_files.specs.Scrub.{all_data}
 use Rattle.fsd_files.specs.Volume.{Volume}
 use Rattle.fsd_runs.specs.declared.span.Span.{Span}
+use Rattle.fsd_runs.specs.declared.span.Weight.{Weight}
 
 -- ---- serials
 
@@ -66,26 +67,33 @@ dump_of span v = dump_parts (latest_of (made_before span.before v.entries)) (map
 
 -- ---- the span of a dump that has so many bytes at most
 
--- how many bytes the dump of these versions has: a head of 16, an end of 8, and of each version 12, its name and its bytes
+-- of a dump a version takes 12 bytes, its name and its bytes
+abbrev pub weight_of : Entry → Weight
+weight_of e = record { serial = e.serial; bytes = 12 + length e.key.name + e.length }
+
+-- how many bytes a dump of those has that take so many: it has a head of 16, and an end of 8
+abbrev pub length_of : List Weight → ℕ
+length_of weights = 24 + sum_by (λ w. w.bytes) weights
+
+-- how many bytes the dump of these versions has
 abbrev pub dump_length : List Entry → ℕ
-dump_length entries = 24 + sum_by (λ e. 12 + length e.key.name + e.length) entries
+dump_length entries = length_of (map weight_of entries)
 
 -- all behind this one
 abbrev pub all_since : Serial → Span
 all_since since = record { since = since; before = None }
 
--- the versions behind the one, up to the other
-abbrev pub made_up_to : (since last : Serial) → List Entry → List Entry
-made_up_to since last entries = filter (λ e. not (serial_lt last e.serial)) (chosen (all_since since) entries)
+-- what the versions behind this one take
+abbrev pub weights_since : Serial → List Entry → List Weight
+weights_since since entries = map weight_of (chosen (all_since since) entries)
 
--- up to this one, or of no version
-abbrev pub length_up_to : (since : Serial) → List Entry → (last : Option Serial) → ℕ
-length_up_to since entries None = dump_length []
-length_up_to since entries (Some last) = dump_length (made_up_to since last entries)
+abbrev pub serials_of : List Weight → List Serial
+serials_of weights = map (λ w. w.serial) weights
 
--- the serials that are behind this one
-abbrev pub serials_since : Serial → List Entry → List Serial
-serials_since since entries = map (λ e. e.serial) (chosen (all_since since) entries)
+-- of those up to this serial, or of none
+abbrev pub length_up_to : List Weight → (last : Option Serial) → ℕ
+length_up_to weights None = length_of []
+length_up_to weights (Some last) = length_of (filter (λ w. not (serial_lt last w.serial)) weights)
 
 abbrev pub earlier_of : Serial → Serial → Serial
 earlier_of a b = if serial_lt b a then b else a
@@ -96,20 +104,24 @@ earliest [] = None
 earliest (s ∷ serials) = Some (fold earlier_of s serials)
 
 -- the first serial with which the dump is longer, if there is one
-abbrev pub first_over : (most : ℕ) → (since : Serial) → List Entry → Option Serial
-first_over most since entries = earliest (filter (λ s. nat_lt most (length_up_to since entries (Some s))) (serials_since since entries))
+abbrev pub first_over : (most : ℕ) → List Weight → Option Serial
+first_over most weights = earliest (filter (λ s. nat_lt most (length_up_to weights (Some s))) (serials_of weights))
 
 -- the dump of the version that was made first, or of none
-abbrev pub least_length : (since : Serial) → List Entry → ℕ
-least_length since entries = length_up_to since entries (earliest (serials_since since entries))
+abbrev pub least_length : List Weight → ℕ
+least_length weights = length_up_to weights (earliest (serials_of weights))
 
--- the span of all that is behind a serial, or of as many of the least serials as so many bytes hold; or how many bytes the
--- dump of the first one has, where that is more
+-- the span of as many of the least serials as so many bytes hold; or how many bytes the dump of the first one has, where
+-- that is more
+abbrev pub span_over : (since : Serial) → (most : ℕ) → List Weight → Result Span ℕ
+span_over since most weights =
+    if nat_lt most (least_length weights) then Err (least_length weights)
+    else Ok (record { since = since; before = first_over most weights })
+
+-- that of the versions behind this serial; or of all of them, where no bytes are told
 abbrev pub span_of : (since : Serial) → (most : Option ℕ) → List Entry → Result Span ℕ
 span_of since None entries = Ok (all_since since)
-span_of since (Some most) entries =
-    if nat_lt most (least_length since entries) then Err (least_length since entries)
-    else Ok (record { since = since; before = first_over most since entries })
+span_of since (Some most) entries = span_over since most (weights_since since entries)
 
 -- ---- what may be damaged
 

@@ -11,4 +11,4 @@ pub use laws::{
     replies_tell_the_changes, stops_leave_sound_disks, without_faults_memory_alone_is_refused,
 };
 pub use request::Request;
-pub use span::Span;
+pub use span::{Span, Weight};

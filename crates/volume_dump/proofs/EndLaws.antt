@@ -15,8 +15,8 @@ use Rattle.fsd_runs.specs.Dumps.{AreWhole, chosen, dump_of}
 use Rattle.scrub.specs.Walk.{IsFromOutside}
 use Rattle.volume_dump.specs.declared.fault.DumpFault.{DumpFault}
 use Rattle.volume_dump.specs.declared.fault.DumpFault.TheVariants.{Refused, Found, Cut, Output, Memory}
-use Rattle.volume_dump.specs.Dump.{EndsDump, SaysParts}
-use Rattle.volume_dump.specs.Saying.{EndsSaying, SaysFirst}
+use Rattle.volume_dump.specs.Dump.{EndsDump, SaysFirst}
+use Rattle.volume_dump.specs.Saying.{EndsSaying}
 use Rattle.volume_dump.specs.Told.{told_as}
 
 -- none is found where all are whole
@@ -27,16 +27,16 @@ none_hurt i j (x ∷ xs) found none (inr (more, is, hurt, rest)) = absurd (cc (n
 
 module _ (span : Span) (v : Volume) (a b c : Moment) (quiet : b.said ≡ a.said) where
   module _ (whole : AreWhole a.image (chosen span v.entries)) where
-    parts_since : SaysFirst span v b c → SaysParts span v a c
-    parts_since first = record { whole = whole; count = first.count; more = first.more; said = first.said ∙ ap (λ (xs : List ℕ). xs ++ concat (take first.count (dump_of span v))) quiet }
+    parts_since : SaysFirst span v b c → SaysFirst span v a c
+    parts_since first = record { count = first.count; more = first.more; said = first.said ∙ ap (λ (xs : List ℕ). xs ++ concat (take first.count (dump_of span v))) quiet }
 
     -- nothing was damaged
     pub saying_ends : (count : ℕ) → count ≡ length (chosen span v.entries) → (r : Result ℕ DumpFault) → EndsSaying span v b c count r → EndsDump span v a c r
     saying_ends count is (Ok n) ends = record { whole = whole; counts = ends.0 ∙ is; said = ends.1 ∙ ap (λ (xs : List ℕ). xs ++ concat (dump_of span v)) quiet }
-    saying_ends count is (Err (Cut s)) ends = record { whole = whole; count = ends.count; spoilt = ends.spoilt; said = ends.said ∙ ap (λ (xs : List ℕ). xs ++ concat (take (suc ends.count) (dump_of span v))) quiet }
+    saying_ends count is (Err (Cut s)) ends = (whole, record { count = ends.count; spoilt = ends.spoilt; said = ends.said ∙ ap (λ (xs : List ℕ). xs ++ concat (take (suc ends.count) (dump_of span v))) quiet })
     saying_ends count is (Err Output) ends = whole
-    saying_ends count is (Err Memory) ends = inr (parts_since ends)
-    saying_ends count is (Err (Refused (Why.Device s))) ends = inr (parts_since ends)
+    saying_ends count is (Err Memory) ends = inr (whole, parts_since ends)
+    saying_ends count is (Err (Refused (Why.Device s))) ends = inr (whole, parts_since ends)
     saying_ends count is (Err (Refused why)) ends = absurd ends
     saying_ends count is (Err (Found found)) ends = absurd ends
 

@@ -1,5 +1,4 @@
 pub mod ToldLaws
-pub mod SerialLaws
 pub mod WeighLaws
 pub mod WeighedLaws
 pub mod TextLaws

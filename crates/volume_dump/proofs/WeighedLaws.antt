@@ -7,15 +7,15 @@ use Rattle.fsd_bytes.specs.declared.key.Key.{Key}
 use Rattle.fsd_bytes.specs.declared.key.Serial.{Serial}
 use Rattle.fsd_formats.specs.declared.entry.Entry.{Entry}
 use Rattle.fsd_log.specs.Scan.{Placed}
-use Rattle.fsd_runs.specs.Dumps.{all_since, chosen, is_in_span}
+use Rattle.fsd_runs.specs.Dumps.{all_since, chosen, is_in_span, weight_of, weights_since}
 use Rattle.sector_disk.specs.Machine.{Moment}
 use Rattle.fsd_files.specs.Answers.{entry_after}
 use Rattle.fsd_files.specs.declared.reply.Reply.TheVariants.{Found}
 use Rattle.fsd_sound.specs.Mounted.{Mounted}
 use Rattle.volume_contract.specs.State.{Known, Stands, State, volume_of}
 use Rattle.scrub.proofs.WalkLaws.{walked_all, walked_counted, walked_more}
-use Rattle.volume_dump.specs.declared.weights.Weight.{Weight}
-use Rattle.volume_dump.specs.Weighing.{HasWeighed, weight_of, weights_since}
+use Rattle.fsd_runs.specs.declared.span.Weight.{Weight}
+use Rattle.volume_dump.specs.Weighing.{HasWeighed}
 
 weights_both : (since : Serial) (xs ys : List Entry) → weights_since since (xs ++ ys) ≡ weights_since since xs ++ weights_since since ys
 weights_both since xs ys =

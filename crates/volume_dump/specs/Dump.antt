@@ -101,23 +101,26 @@ pub record FindsDamages (span : Span) (v : Volume) (old new : Moment) (found : L
   pub finds : Picks old.image new.image (all_data (chosen span v.entries)) found
   pub quiet : new.said ≡ old.said
 
--- None was damaged as it began, but one of the version is now that is next behind those that are said.
-pub record IsCutOff (span : Span) (v : Volume) (old new : Moment) (s : ℕ) : Type 0 where
-  pub whole : AreWhole old.image (chosen span v.entries)
+-- All parts in front of the version are said that is damaged.
+pub record SaysUpTo (span : Span) (v : Volume) (old new : Moment) (s : ℕ) : Type 0 where
   pub count : ℕ
   pub spoilt : IsSpoiltAt new.image (chosen span v.entries) count s
   pub said : new.said ≡ old.said ++ concat (take (suc count) (dump_of span v))
 
--- None was damaged as it began, and some first parts are said, not all.
-pub record SaysParts (span : Span) (v : Volume) (old new : Moment) : Type 0 where
-  pub whole : AreWhole old.image (chosen span v.entries)
+-- Some first parts are said, not all.
+pub record SaysFirst (span : Span) (v : Volume) (old new : Moment) : Type 0 where
   pub count : ℕ
   pub more : IsSome (slice_get (dump_of span v) count)
   pub said : new.said ≡ old.said ++ concat (take count (dump_of span v))
 
+-- no data sector of the chosen versions was damaged as it began, and some first parts are said: up to the version that has
+-- one that is now
+abbrev pub IsCutOff : Span → Volume → (old new : Moment) → (s : ℕ) → Type 0
+IsCutOff span v old new s = AreWhole old.image (chosen span v.entries) × SaysUpTo span v old new s
+
 -- a fault from outside has ended it, at its first reading, or between two parts
 abbrev pub BreaksOff : Span → Volume → (old new : Moment) → Type 0
-BreaksOff span v old new = (new.said ≡ old.said) ⊎ SaysParts span v old new
+BreaksOff span v old new = (new.said ≡ old.said) ⊎ (AreWhole old.image (chosen span v.entries) × SaysFirst span v old new)
 
 abbrev pub EndsDump : Span → Volume → (old new : Moment) → Result ℕ DumpFault → Type 0
 EndsDump span v old new (Ok count) = HasDumped span v old new count

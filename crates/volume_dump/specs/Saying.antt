@@ -1,5 +1,5 @@
 -- What is said of the versions, one after another.
-use Rattle.std.specs.Prelude.{◌≡◌, ⊤, ℕ, suc, Bool, List, [], ◌∷◌, ◌++◌, length, map, take, Option, Some, Contains, IsSome, IsTrue, Result, Ok, Err, slice_get}
+use Rattle.std.specs.Prelude.{◌≡◌, ⊤, ℕ, Bool, List, [], ◌∷◌, ◌++◌, length, map, Option, Some, Contains, IsTrue, Result, Ok, Err}
 use Rattle.std.specs.List.{concat}
 use Rattle.fsd_bytes.specs.declared.refusal.Refusal.TheVariants as Why
 use Rattle.fsd_dumps.specs.Dump.{Dumped, item_bytes}
@@ -16,14 +16,14 @@ use Rattle.fsd_files.specs.Kept.{data_sectors}
 use Rattle.fsd_files.specs.Volume.{Volume}
 use Rattle.fsd_sound.specs.Mounted.{Mounted}
 use Rattle.fsd_runs.specs.declared.span.Span.{Span}
-use Rattle.fsd_runs.specs.Dumps.{IsSpoiltAt, chosen, dump_of, dumped_of, is_in_span, latest_of, made_before}
+use Rattle.fsd_runs.specs.Dumps.{chosen, dump_of, dumped_of, is_in_span, latest_of, made_before}
 use Rattle.volume_contract.specs.State.{Known, Stands, State, volume_of}
 use Rattle.scrub.specs.Walk.{IsWalked}
 use Rattle.fsd_bytes.specs.declared.key.Key.{Key}
 use Rattle.volume_dump.specs.declared.fault.DumpFault.{DumpFault}
 use Rattle.volume_dump.specs.declared.fault.DumpFault.TheVariants.{Refused, Cut, Output, Memory}
 use Rattle.volume_dump.specs.declared.survey.Tally.{Tally}
-use Rattle.volume_dump.specs.Dump.{ReadsAndSays, SaysSome}
+use Rattle.volume_dump.specs.Dump.{ReadsAndSays, SaysFirst, SaysSome, SaysUpTo}
 
 -- ---- the text
 
@@ -115,18 +115,6 @@ EndsEntries span v old new (Err other) = ⊥
 pub record IsHeaded (span : Span) (s : Tally) (k : Known) : Type 0 where
   pub count : s.chosen ≡ length (chosen span (volume_of k).entries)
   pub latest : s.latest ≡ latest_of (made_before span.before (volume_of k).entries)
-
--- All parts in front of the version are said that is damaged.
-pub record SaysUpTo (span : Span) (v : Volume) (old new : Moment) (s : ℕ) : Type 0 where
-  pub count : ℕ
-  pub spoilt : IsSpoiltAt new.image (chosen span v.entries) count s
-  pub said : new.said ≡ old.said ++ concat (take (suc count) (dump_of span v))
-
--- Some first parts are said, not all.
-pub record SaysFirst (span : Span) (v : Volume) (old new : Moment) : Type 0 where
-  pub count : ℕ
-  pub more : IsSome (slice_get (dump_of span v) count)
-  pub said : new.said ≡ old.said ++ concat (take count (dump_of span v))
 
 abbrev pub EndsSaying : Span → Volume → (old new : Moment) → (count : ℕ) → Result ℕ DumpFault → Type 0
 EndsSaying span v old new count (Ok n) = (n ≡ count) × (new.said ≡ old.said ++ concat (dump_of span v))

@@ -2,19 +2,20 @@
 ghost use Rattle.std.specs.Prelude.{◌≡◌, ◌≤◌, ◌<◌, ◌^◌, ◌++◌, ◌∷◌, [], All, None, true, IfErr, IfOk, OnErr, OnOk};
 ghost use Rattle.sector_disk.specs.Calls.{device_in};
 ghost use Rattle.fsd_formats.specs.NamePage.{is_entry};
+ghost use Rattle.fsd_runs.specs.Dumps.{weights_since};
 ghost use Rattle.volume_contract.specs.Ends.{device_of};
 ghost use Rattle.volume_contract.specs.Order.{Follows, IsLookUp, next_steps};
 ghost use Rattle.volume_contract.specs.State.{Known, Stands, volume_of};
 ghost use Rattle.scrub.specs.Reading.{ReadsVolume};
 ghost use Rattle.scrub.specs.Telling.{TellsOn};
 ghost use Rattle.volume_dump.specs.Spanning.{EndsSpan, FollowsSpan};
-ghost use Rattle.volume_dump.specs.Weighing.{AreFew, EndsWeighing, weights_since};
+ghost use Rattle.volume_dump.specs.Weighing.{AreFew, EndsWeighing};
 
 use crate::serials::serial_lt;
-use crate::weights::{Weight, span_over, weight_of};
+use crate::weights::{span_over, weight_of};
 use fsd_bytes::{Refusal, Serial};
 use fsd_formats::Entry;
-use fsd_runs::Span;
+use fsd_runs::{Span, Weight};
 use scrub::next_one;
 use sector_disk::Machine;
 use std::alloc::{AllocError, Global};
