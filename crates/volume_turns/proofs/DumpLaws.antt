@@ -50,9 +50,6 @@ pub whole_before : (may : ℕ → Bool) (i j : Image) → IsWorn may i j → (xs
 whole_before may i j worn [] whole = tt
 whole_before may i j worn (x ∷ xs) (here, rest) = ((here.0, worn_whole may i j x.1 here.0 worn here.1), whole_before may i j worn xs rest)
 
-pub picks_before : (may : ℕ → Bool) (h i j : Image) → IsWorn may h i → (all found : List (Key × ℕ)) → Picks i j all found → Picks h j all found
-picks_before may h i j worn all found picks = picks_longer Any h i j j (λ s any whole. (whole.0, worn_whole may h i s whole.0 worn whole.1)) (λ s any hurt. hurt) all found (anything all) picks
-
 -- ---- where nothing but a fault is said
 
 abbrev first_byte : List ℕ → Option ℕ

@@ -39,17 +39,17 @@ use Rattle.volume_turns.specs.Whole.{Halted, SaysOut, UnderWay}
 use Rattle.volume_turns.proofs.CountLaws.{told_more}
 use Rattle.volume_turns.proofs.DumpEndLaws.{a_fault}
 use Rattle.volume_turns.proofs.DumpAskedLaws.{DumpsAs, plain_parts, wears_run}
-use Rattle.volume_turns.proofs.DumpLaws.{Rooted, held_said, picks_before, plain_done, plain_stops, unsaid_as, whole_before}
+use Rattle.volume_turns.proofs.DumpLaws.{Rooted, held_said, plain_done, plain_stops, unsaid_as, whole_before}
 use Rattle.volume_turns.proofs.HaltLaws.{broken_ends, broken_moments}
 use Rattle.volume_turns.proofs.LineLaws.{at_once_ends}
+use Rattle.fsd_runs.proofs.RunLaws.{said_parts}
+use Rattle.volume_turns.proofs.RunLaws.{picks_earlier}
 use Rattle.volume_turns.proofs.PlainLaws.{ArePlain, plain_halts, plain_map, plain_take}
 use Rattle.volume_turns.proofs.SayLaws.{KeepsSynced}
-use Rattle.volume_turns.proofs.UtterLaws.{says_both, utters_behind, utters_by, utters_more, wears_say}
+use Rattle.volume_turns.proofs.UtterLaws.{says_both, utters_behind, utters_by, wears_say}
+use Rattle.volume_dump.proofs.TextLaws.{utters_more}
 
 -- ---- the turns of a dump
-
-pub said_parts : (parts : List (List ℕ)) → said_in (map said_turn parts) ≡ concat parts
-said_parts parts = flat_map-map (λ (t : Turn). t.said) said_turn parts ∙ sym (concat_is parts)
 
 pub said_first : (n : ℕ) (parts : List (List ℕ)) → said_in (take n (map said_turn parts)) ≡ concat (take n parts)
 said_first n parts = ap (λ (ts : List Turn). said_in ts) (take-map said_turn n parts) ∙ said_parts (take n parts)
@@ -150,7 +150,7 @@ module _ {S D : Type 0} (state : S → State) (has : S → Mounted → List Plac
         }
 
     sector_out : (s : ℕ) → IsCutOff span (volume_of k) (M.now m) (M.now d) s → Out d 8
-    sector_out s x =
+    sector_out s (whole, x) =
         let front = take (suc x.count) turns in
         let bytes = concat (take (suc x.count) parts) in
         let is : said_in front ≡ bytes = said_first (suc x.count) parts in
@@ -170,7 +170,7 @@ module _ {S D : Type 0} (state : S → State) (has : S → Mounted → List Plac
               done = plain_done state has M k v a m wears stands on short timed reads back none roots d honest (disk.since honest) bytes run front (plain_take (suc x.count) turns (plain_parts parts)) is (dump_says state has M w span fault m d disk honest bytes x.said);
             });
           };
-          so = (whole_a x.whole, ((M.now d).image, record { moment = M.now d; passed = passed_d; image = refl; so_far = said_a bytes (M.now d).said x.said }, x.spoilt));
+          so = (whole_a whole, ((M.now d).image, record { moment = M.now d; passed = passed_d; image = refl; so_far = said_a bytes (M.now d).said x.said }, x.spoilt));
         }
 
   -- where the output has failed
@@ -233,7 +233,7 @@ module _ {S D : Type 0} (state : S → State) (has : S → Mounted → List Plac
             (
               (M.now d).image,
               record { moment = M.now d; passed = end.says.since honest (M.moment a) (M.now d) (let first = (reads.any_moment back).later in let then = (disk.any_moment honest_d).later in omega (arith, first, then)) (passed_d fault d disk honest_d); image = refl; so_far = x.quiet ∙ worn.said },
-              picks_before (open_damage (M.now a).windows) (M.now a).image (M.now m).image (M.now d).image worn.image (all_data (chosen span (volume_of k).entries)) found x.finds,
+              picks_earlier (open_damage (M.now a).windows) (M.now a).image (M.now m).image (M.now d).image worn.image (all_data (chosen span (volume_of k).entries)) found x.finds,
             ),
           );
         }
@@ -301,7 +301,7 @@ module _ {S D : Type 0} (state : S → State) (has : S → Mounted → List Plac
 
     fault_out : BreaksOff span (volume_of k) (M.now m) (M.now d) → Out b status
     fault_out (inl same) = broken_out 0 refl (quiet_at same) (unsaid_as (Ok span) (M.left_since b (M.moment a)) (M.now a).said (volume_of k) (M.now a).image (only_fault same))
-    fault_out (inr x) = broken_out x.count x.more x.said (λ c more passed said. whole_a x.whole)
+    fault_out (inr (whole, x)) = broken_out x.count x.more x.said (λ c more passed said. whole_a whole)
 
   -- however it ends
   module _ (d b : D) (status : ℕ) (honest : M.honest b) where

@@ -25,6 +25,7 @@ use Rattle.client_desk.specs.Clients.{no_desk}
 use Rattle.client_desk.specs.declared.client.Client.{Client}
 use Rattle.scrub.specs.Telling.{AreOfPage}
 use Rattle.volume_contract.specs.State.{IsNew, Known, State, forced_of, is_worn, volume_of}
+use Rattle.fsd_runs.proofs.RunLaws.{answered_none}
 use Rattle.volume_turns.specs.declared.turns.Halt.{Halt}
 use Rattle.volume_turns.specs.declared.turns.Halt.TheVariants.{Fault as Stopped, Output}
 use Rattle.volume_turns.specs.Generate.{silent}
@@ -160,10 +161,6 @@ closes_so done = by (first_refusal done)
     by : (o : Option Refusal) → (restored_unless o (length done)).turns ≡ closing_turn (text (end_line o (length done))) ∷ []
     by None = refl
     by (Some why) = refl
-
-pub answered_none : (mets : List Meeting) (s : Session) → answered mets s [] ≡ []
-answered_none [] s = refl
-answered_none (x ∷ mets) s = refl
 
 module _ {S D : Type 0} (state : S → State) (has : S → Mounted → List Placed → Type 0) (M : Ghosts D) (k : Known) (a m : D) (w : S) (later : M.moment a ≤ M.moment m) where
   abbrev Ran : List ScriptCommand → Result (Unit {0}) Halt → (List Answered → Type 0) → Type 0

@@ -24,7 +24,7 @@ use Rattle.volume_turns.specs.Turns.{OnDisk}
 use Rattle.volume_turns.specs.Whole.{Always, Finishes, RunsOut}
 use Rattle.volume_turns.proofs.BeforeLaws.{finishes_before, finishes_ended, stands_worn, uses_untaken}
 use Rattle.volume_turns.proofs.InputLaws.{asks_none}
-use Rattle.volume_turns.proofs.RestoreLaws.{answered_none}
+use Rattle.fsd_runs.proofs.RunLaws.{answered_none}
 use Rattle.volume_turns.proofs.RestoreOutLaws.{asks_nothing, low_from, some_load, some_turn}
 use Rattle.volume_turns.proofs.StatusLaws.{one_not_five}
 use Rattle.volume_turns.proofs.TurnLaws.{worn_state}

@@ -41,6 +41,7 @@ use Rattle.fsd_runs.specs.Runs.{Goes, IsStep, StoodAt, session_behind, changes_i
 use Rattle.fsd_runs.specs.Sessions.{CallMayFind, FindsNext, HoldsRead, MayFindIn, Meeting, answer_in, changes_in_session}
 use Rattle.fsd_runs.proofs.SessionLaws.{command_grows}
 use Rattle.client_desk.specs.declared.client.Client.{Client}
+use Rattle.scrub.proofs.LookLaws.{Any, anything}
 use Rattle.volume_turns.specs.declared.turns.Halt.{Halt}
 use Rattle.volume_turns.specs.declared.turns.Halt.TheVariants.{Fault as Stopped, Output}
 use Rattle.sector_disk.specs.Calls.{DiskFaults, IsHeld, IsTimed, Since, StopsOnly, WritesDisk, stops}
@@ -52,12 +53,8 @@ use Rattle.volume_turns.proofs.ReadLaws.{finds_earlier, some_earlier}
 use Rattle.volume_turns.proofs.SeatLaws.{seat_wears}
 use Rattle.volume_turns.proofs.TurnLaws.{in_saying_at, in_unsaid, in_behind, enough_from, said_before, said_more, said_nothing, stays_held, stays_stops, worn_state, state_worn}
 
-anything : (xs : List (Key × ℕ)) → AllByRecursion (λ x. Unit {0}) xs
-anything [] = tt
-anything (x ∷ xs) = (tt, anything xs)
-
-picks_earlier : (may : ℕ → Bool) (i j k : Image) → IsWorn may i j → (all found : List (Key × ℕ)) → Picks j k all found → Picks i k all found
-picks_earlier may i j k worn all found picks = picks_longer (λ s. Unit {0}) i j k k (λ s any whole. (whole.0, worn_whole may i j s whole.0 worn whole.1)) (λ s any hurt. hurt) all found (anything all) picks
+pub picks_earlier : (may : ℕ → Bool) (i j k : Image) → IsWorn may i j → (all found : List (Key × ℕ)) → Picks j k all found → Picks i k all found
+picks_earlier may i j k worn all found picks = picks_longer Any i j k k (λ s any whole. (whole.0, worn_whole may i j s whole.0 worn whole.1)) (λ s any hurt. hurt) all found (anything all) picks
 
 -- what is found, from an earlier image on
 find_earlier : (may : ℕ → Bool) (i j k : Image) → IsWorn may i j → (v : Volume) (command : Command) (met : Met) → MayFind j k v command met → MayFind i k v command met

@@ -22,6 +22,7 @@ use Rattle.volume_turns.specs.Dumping.{SaysAtEnd, damages_text}
 use Rattle.volume_turns.specs.Line.{EndsLast, IsStatusAs, is_unsaid}
 use Rattle.volume_turns.specs.Turns.{SaysAll}
 use Rattle.volume_turns.proofs.ReasonLaws.{ages_then}
+use Rattle.volume_dump.proofs.TextLaws.{utters_more}
 
 -- ---- at a moment
 
@@ -36,12 +37,6 @@ utters_by bytes part more old left is ages said = record {
 
 pub aged : (bytes : List ℕ) (old left : Moment) → Utters bytes old left → Ages old left
 aged bytes old left u = record { image = u.image; windows = u.windows }
-
--- a text that goes on
-pub utters_more : (front more : List ℕ) (old left : Moment) → Utters front old left → Utters (front ++ more) old left
-utters_more front more old left u =
-    utters_by (front ++ more) (take u.heard front) (drop u.heard front ++ more) old left
-    (ap (λ (x : List ℕ). x ++ more) (sym (take-append-drop u.heard front)) ∙ append_assoc (take u.heard front) (drop u.heard front) more) (aged front old left u) u.said
 
 -- behind one that is said whole
 pub utters_behind : (front more : List ℕ) (old mid left : Moment) → SaysAll front old mid → Utters more mid left → Utters (front ++ more) old left
