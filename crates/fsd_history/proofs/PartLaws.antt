@@ -34,6 +34,7 @@ count_by span more a false c each once counts = counts ∙ sym (ap (λ (t : Bool
 
 -- ---- elements
 
+-- what is so of the values is so of the map
 of_map : {X Y : Type 0} (f : X → Y) (P : Y → Type 0) (xs : List X) → AllByRecursion (λ x. P (f x)) xs → AllByRecursion P (map f xs)
 of_map f P [] all = tt
 of_map f P (x ∷ xs) all = (all.0, of_map f P xs all.1)
@@ -73,7 +74,7 @@ first_is s = or_none (nat_lt s.epoch 0) ((s.epoch == 0) && nat_lt s.count 0) (no
     or_none true y first second = first
     or_none false y first second = second
 
--- where a later one comes behind this, so does an earlier one that is not behind it
+-- one that is behind this is behind each that is not
 lt_past : (a b c : Serial) → serial_lt a c ≡ true → serial_lt a b ≡ false → serial_lt b c ≡ true
 lt_past a b c is not_behind = by (serial_lt b c) refl
   where
@@ -140,9 +141,11 @@ module _ (since : Serial) (before : Option Serial) (behind : (b : Serial) → be
           in_front true is = is
           in_front false is = absurd (true≢false (sym (lt_through since b e.serial (ends b refl) is) ∙ early))
 
+  -- so each behind the start, and no other, is in the span or behind the head
   each_there : (e : Entry) → Contains entries e → is_in_span (all_since since) e.serial ≡ (is_in_span (record { since = since; before = before }) e.serial || is_in_span (all_since head) e.serial)
   each_there e there = each_by (serial_lt since e.serial) (is_before before e.serial) (serial_lt head e.serial) (not_behind e there) (on_behind e) (all_in_front e)
 
+  -- and none is both
   once_there : (e : Entry) → Contains entries e → (is_in_span (record { since = since; before = before }) e.serial && is_in_span (all_since head) e.serial) ≡ false
   once_there e there = once_by (serial_lt since e.serial) (is_before before e.serial) (serial_lt head e.serial) (not_behind e there)
 
@@ -210,6 +213,7 @@ module _ (since : Serial) (most : ℕ) (entries : List Entry) where
               let first = passed is_over (serials_of weights) b (earliest_there (filter is_over (serials_of weights)) b is).0 in
               absurd (both_ways (is_over s) under (ap is_over (lt_ties s b never (All-contains (λ t. serial_lt t s ≡ false) (serials_of weights) b least first.0)) ∙ first.1))
 
+  -- so a part has one where any is behind the start
   pub part_has_one : (span : Span) → span_of since (Some most) entries ≡ Ok span → chosen span entries ≡ [] → all ≡ []
   part_has_one span is none = by (earliest (serials_of weights)) refl
     where
