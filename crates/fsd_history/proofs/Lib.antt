@@ -1,4 +1,5 @@
 mod DumpLaws
 pub mod HistoryLaws
+mod PartLaws
 mod TextExamples
 pub mod WordLaws

@@ -1,5 +1,5 @@
 //! Laws over the definitions: the functions do nothing, the contract of each is a law.
-ghost use Rattle.std.specs.Prelude.{◌≡◌, ◌⊎◌, ◌≤◌, ◌++◌, ◌∷◌, ℕ, List, [], length, Option, None, Some, T};
+ghost use Rattle.std.specs.Prelude.{◌≡◌, ◌⊎◌, ◌≤◌, ◌++◌, ◌∷◌, ◌&&◌, ◌||◌, if◌then◌else◌, ℕ, Contains, List, [], filter, length, Ok, Option, None, Some, T, false};
 ghost use Rattle.sector_disk.specs.Calls.{IsHeld};
 ghost use Rattle.sector_disk.specs.Machine.{IsSynced, Moment};
 ghost use Rattle.volume_layout.specs.declared.kind.Kind.{Kind};
@@ -9,11 +9,14 @@ ghost use Rattle.fsd_bytes.specs.declared.key.Key.{Key};
 ghost use Rattle.fsd_bytes.specs.declared.key.Serial.{Serial};
 ghost use Rattle.fsd_bytes.specs.declared.pattern.Pattern.TheVariants.{Prefix};
 ghost use Rattle.fsd_files.specs.Files.{Change, Files, step};
+ghost use Rattle.fsd_formats.specs.declared.entry.Entry.{Entry};
 ghost use Rattle.fsd_texts.specs.declared.command.Command.TheVariants.{Get, List as ListAll};
 ghost use Rattle.fsd_runs.specs.declared.request.Request.TheVariants.{Dump, Format, One, Put, Restore};
+ghost use Rattle.fsd_runs.specs.declared.span.Span.{Span};
+ghost use Rattle.fsd_runs.specs.Dumps.{all_since, chosen, is_in_span, span_of};
 ghost use Rattle.cfs_program.specs.Drill.{list_text};
 ghost use Rattle.cfs_program.specs.Program.{Ran, input_for};
-ghost use Rattle.fsd_history.specs.History.{AreLives, Ends, HasShown, IsFull, IsLeft, Life, SaysVersion, Stops, Tells, TellsPlainly};
+ghost use Rattle.fsd_history.specs.History.{AreLives, AreParts, Ends, HasShown, IsFull, IsLeft, Life, SaysVersion, Stops, Tells, TellsPlainly, next_since};
 
 use sector_disk::Machine;
 
@@ -68,6 +71,23 @@ pub fn full_dumps_restore_the_files<M: Machine>()
 pub fn dumps_have_so_many_bytes_at_most<M: Machine>()
     ensures { (m : M) (since : Serial) (most : ℕ) (said : List ℕ) (s next : Files) → T (is_sorted key_cmp s) →
         Ends (HasShown M.Machine m) (Dump since (Some most)) [] s said 0 next → length said ≤ most }
+{}
+
+/// A dump goes on from part to part: each version behind the serial of a part, and no other, is in it or behind its head,
+/// where the next part begins, and none is both; and a part has no version only where none is behind its serial.
+pub fn parts_of_a_dump_go_on()
+    ensures each { (since : Serial) (most : ℕ) (entries : List Entry) (span : Span) → span_of since (Some most) entries ≡ Ok span → (e : Entry) → Contains entries e →
+        is_in_span (all_since since) e.serial ≡ (is_in_span span e.serial || is_in_span (all_since (next_since span entries)) e.serial) }
+    ensures once { (since : Serial) (most : ℕ) (entries : List Entry) (span : Span) → span_of since (Some most) entries ≡ Ok span → (e : Entry) → Contains entries e →
+        (is_in_span span e.serial && is_in_span (all_since (next_since span entries)) e.serial) ≡ false }
+    ensures last { (since : Serial) (most : ℕ) (entries : List Entry) (span : Span) → span_of since (Some most) entries ≡ Ok span →
+        chosen span entries ≡ [] → chosen (all_since since) entries ≡ [] }
+{}
+
+/// So the parts of a dump, up to where no version is left, have each version behind its serial once, and no other.
+pub fn parts_of_a_dump_have_each_version_once()
+    ensures { (since : Serial) (most : ℕ) (entries : List Entry) (spans : List Span) → AreParts since most entries spans → (e : Entry) → Contains entries e →
+        length (filter (λ span. is_in_span span e.serial) spans) ≡ (if is_in_span (all_since since) e.serial then 1 else 0) }
 {}
 
 /// A worked history: a put that was stopped at any moment, and a list that ended, over a volume that was formatted.
