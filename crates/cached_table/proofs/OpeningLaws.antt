@@ -11,7 +11,7 @@ use Rattle.std.proofs.Math.Nat.{mod-eq_of_lt}
 use Rattle.fsd_bytes.specs.declared.refusal.Refusal.{Refusal}
 use Rattle.fsd_bytes.specs.declared.refusal.Refusal.TheVariants as Why
 use Rattle.volume_layout.specs.declared.layout.Layout.{Layout}
-use Rattle.volume_layout.specs.Layout.{home_a, plan}
+use Rattle.volume_layout.specs.Layout.{home_a, IsPlanned}
 use Rattle.volume_layout.proofs.RootLaws.{planned_bounds}
 use Rattle.run_table.specs.Space.{contains}
 use Rattle.sector_set.specs.Area.{Area}
@@ -96,7 +96,7 @@ module _ {D : Type 0} (M : MachineGhosts D) (l : Layout) (m' : D) (home_a : ℕ)
 
 -- ---- homes
 
-module _ (l : Layout) (planned : plan l.kind l.sectors l.third l.pages ≡ Ok l) where
+module _ (l : Layout) (planned : IsPlanned l) where
   -- the sector of a home A as a number of 32 bits
   home_number : (page : ℕ) → page < l.pages → home_in (home_a l 0) page ≡ home_a l page
   home_number page lt =
@@ -143,7 +143,7 @@ any_page page (v ∷ vs) = ap (λ (b : Bool). (v.page == page) || b) (any_page p
 
 -- ---- where the homes are known
 
-module _ {D : Type 0} (M : MachineGhosts D) (l : Layout) (planned : plan l.kind l.sectors l.third l.pages ≡ Ok l) (m m' : D) (c0 c : CacheValue) (is_new : c0 ≡ no_pages frames) (free : List Bool) (none : free ≡ replicate l.pages false) (first : ℕ) (home_first : first ≡ home_a l 0)
+module _ {D : Type 0} (M : MachineGhosts D) (l : Layout) (planned : IsPlanned l) (m m' : D) (c0 c : CacheValue) (is_new : c0 ≡ no_pages frames) (free : List Bool) (none : free ≡ replicate l.pages false) (first : ℕ) (home_first : first ≡ home_a l 0)
     (honest : M.honest m') (knows : KnowsHomes l (M.now m)) where
   trusted : IsTrusted M at_home.ghosts l m c0 m'
   trusted = record {

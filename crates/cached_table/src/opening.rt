@@ -1,6 +1,6 @@
 //! The opening of a name table: it is surveyed as it stands at home.
 ghost use Rattle.std.specs.Prelude.{◌≡◌, ◌≤◌, ◌<◌, ◌^◌, ℕ, Ok, IfOk, IfErr, false, length, not, replicate, slice_index_or};
-ghost use Rattle.volume_layout.specs.Layout.{plan};
+ghost use Rattle.volume_layout.specs.Layout.{IsPlanned};
 ghost use Rattle.sector_disk.specs.Calls.{OnlyReads, device_in};
 ghost use Rattle.fsd_sound.specs.Lost.{AreHomes, LostIn};
 ghost use Rattle.fsd_sound.specs.Mounting.{device_of_mount};
@@ -48,7 +48,7 @@ fn no_marks(alloc: Global, pages: u32) -> Result<Vec<bool>, AllocError>
 
 // The memory for the survey of a table.
 fn room_for(alloc: Global, l: &Layout) -> Result<Room, AllocError>
-    requires { plan l.now.kind l.now.sectors l.now.third l.now.pages ≡ Ok l.now }
+    requires { IsPlanned l.now }
     ensures { IfOk result (IsRoomFor l.now) }
 {
     let cache = Cache::new(alloc, FRAMES)?;
@@ -79,7 +79,7 @@ fn free_unmarked(free: &mut FreePages, marks: &[bool])
 
 // Surveys a table in this room.
 fn survey_room<M: Machine>(m: &mut M, l: &Layout, room: Room) -> Result<Opened, MountFault>
-    requires planned { plan l.now.kind l.now.sectors l.now.third l.now.pages ≡ Ok l.now }
+    requires planned { IsPlanned l.now }
     requires sectors { l.now.sectors ≤ (M.report m.old).sectors }
     requires room { IsRoomFor l.now room }
     ensures reads { OnlyReads M.Machine (device_in device_of_mount result) m.old m.new }
@@ -124,7 +124,7 @@ fn survey_room<M: Machine>(m: &mut M, l: &Layout, room: Room) -> Result<Opened, 
 /// Surveys the name table of a layout as it stands at home.
 /// Needs room for 256 pages, a bit for each sector and two bytes for each page.
 pub fn open_table<M: Machine>(alloc: Global, m: &mut M, l: &Layout) -> Result<Opened, MountFault>
-    requires planned { plan l.now.kind l.now.sectors l.now.third l.now.pages ≡ Ok l.now }
+    requires planned { IsPlanned l.now }
     requires sectors { l.now.sectors ≤ (M.report m.old).sectors }
     ensures reads { OnlyReads M.Machine (device_in device_of_mount result) m.old m.new }
     ensures opened { IfOk result (IsOpened l.now) }

@@ -4,7 +4,7 @@ use Rattle.std.specs.Prelude.{IsSome, Ok}
 use Rattle.std.specs.List.{flat_map}
 use Rattle.std.proofs.lemmas.List.{append-nil, length-append, length-take, take-append-le, take-take, take_all}
 use Rattle.volume_layout.specs.declared.layout.Layout.{Layout}
-use Rattle.volume_layout.specs.Layout.{plan}
+use Rattle.volume_layout.specs.Layout.{IsPlanned}
 use Rattle.fsd_bytes.specs.declared.key.Key.{Key}
 use Rattle.fsd_bytes.specs.declared.key.Serial.{Serial}
 use Rattle.fsd_bytes.specs.declared.pattern.Pattern.TheVariants.{Prefix}
@@ -80,7 +80,7 @@ few_taken n made h le = let long = length-take made h in (omega (arith, long, le
 
 -- ---- a format
 
-pub kept_made : (l : Layout) (now : Moment) → plan l.kind l.sectors l.third l.pages ≡ Ok l → HoldsVolume l now → KeepsFirst [] 0 now
+pub kept_made : (l : Layout) (now : Moment) → IsPlanned l → HoldsVolume l now → KeepsFirst [] 0 now
 kept_made l now planned holds = record {
   layout = l;
   windows = holds.run ∷ [];
@@ -255,7 +255,7 @@ found_of h f now k n prefix =
     (record { forced = omega (arith, forced, some); made = few.1 }, take-take n k.made h few.0)
 
 -- a mount that settled
-kept_mounted : (l : Layout) (windows : List WeakRun) (next : WeakRun) (h g : List Change) (f made forced : ℕ) (now : Moment) → plan l.kind l.sectors l.third l.pages ≡ Ok l → now.windows ≡ record { present = Some next; next = None }
+kept_mounted : (l : Layout) (windows : List WeakRun) (next : WeakRun) (h g : List Change) (f made forced : ℕ) (now : Moment) → IsPlanned l → now.windows ≡ record { present = Some next; next = None }
     → IsSound l (windows ++ next ∷ []) g forced now.image → g ≡ take made h → made ≤ length h → f ≤ forced → KeepsFirst h f now
 kept_mounted l windows next h g f made forced now planned settled sound is few some = record {
   layout = l;

@@ -4,7 +4,6 @@ use Rattle.std.specs.Prelude.{IsSome}
 use Rattle.std.proofs.lemmas.List.{append-nil}
 use Rattle.volume_layout.specs.declared.layout.Layout.{Layout}
 use Rattle.volume_layout.proofs.RootLaws.{planned_bounds}
-use Rattle.volume_layout.proofs.TurnedLaws.{planned_turned}
 use Rattle.sector_disk.specs.declared.machine.Machine.{Ghosts}
 use Rattle.sector_disk.specs.declared.sector.WeakRun.{WeakRun}
 use Rattle.sector_disk.specs.Calls.{IsHeld, IsTimed, Since, StopsOnly, stops}
@@ -18,8 +17,8 @@ use Rattle.fsd_files.specs.Disk.{Image, Sectors, in_runs}
 use Rattle.fsd_sound.specs.Sound.{IsSaid, IsSound, weak_of}
 use Rattle.fsd_sound.proofs.WindowLaws.{named_from}
 use Rattle.fsd_sound.proofs.MoreLaws.{wear_sound}
-use Rattle.fsd_sound.proofs.SaidLaws.{says_worn}
-use Rattle.fsd_sound.proofs.TurnedLaws.{sound_turned}
+use Rattle.fsd_sound.proofs.SaidLaws.{planned_beside, says_worn}
+use Rattle.fsd_sound.proofs.BesideLaws.{said_sound}
 use Rattle.fsd_sound.proofs.WindowLaws.{open_is_weak}
 use Rattle.fsd_texts.specs.declared.fault.Fault.{Fault}
 use Rattle.fsd_texts.specs.declared.fault.Fault.TheVariants as Ends
@@ -120,7 +119,12 @@ module _ (l : Layout) (windows : List WeakRun) (h : List Change) (f : ℕ) (old 
         let most = (planned_bounds l sound.planned).sectors_most in
         let long = left_found.sound.readable.roots.fits in record {
           planned = sound.planned;
-          fits = omega (arith, size, most, long);
+          fits = λ k said. ⊎_elim
+              (λ is. omega (arith, size, most, long, ap (λ (x : Layout). x.sectors) is))
+              (λ is.
+              let bound = (planned_bounds k (planned_beside l k sound.planned is.0)).sectors_most in
+              let room = (left_found.sound.readable.either k is.0 is.1).fits in
+              omega (arith, size, bound, room)) said;
           ends = record { last = sound.ends.last ∙ sym found.present; some = subst (λ (w : Option WeakRun). IsSome w) (sym found.present) sound.ends.some };
           sound = left_found.sound;
         }
@@ -259,12 +263,12 @@ module _ {D : Type 0} (M : Ghosts D) (request : Request) (input rest : List ℕ)
 
 said_before : (l layout : Layout) (old at : Moment) → Keeps old at → IsSaid l at.image layout → IsSaid l old.image layout
 said_before l layout old at keeps (inl is) = inl is
-said_before l layout old at keeps (inr (is, says)) = inr (is, says_worn l old.image at.image (open_damage old.windows) keeps.image says)
+said_before l layout old at keeps (inr (is, says)) = inr (is, says_worn layout old.image at.image (open_damage old.windows) keeps.image says)
 
 pub said_disk : (l layout : Layout) (windows : List WeakRun) (h : List Change) (f : ℕ) (now : Moment) → IsSaid l now.image layout → IsSoundDisk l windows h f now → IsSoundDisk layout windows h f now
 said_disk l layout windows h f now (inl is) sound = subst (λ (k : Layout). IsSoundDisk k windows h f now) (sym is) sound
-said_disk l layout windows h f now (inr (is, says)) sound =
-    subst (λ (k : Layout). IsSoundDisk k windows h f now) (sym is) (record { planned = planned_turned l sound.planned; ends = sound.ends; sound = sound_turned l windows now.image says h f sound.sound })
+said_disk l layout windows h f now (inr is) sound =
+    record { planned = planned_beside l layout sound.planned is.0; ends = sound.ends; sound = said_sound l windows h f now.image layout (inr is) sound.sound }
 
 module _ {D : Type 0} (M : Ghosts D) (request : Request) (input rest : List ℕ) (l : Layout) (windows : List WeakRun) (h : List Change) (f : ℕ) (a b c : D) (status : ℕ)
     (sound : IsSoundDisk l windows h f (M.now a)) (short : AreShort (M.now a).windows) where

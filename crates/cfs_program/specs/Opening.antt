@@ -2,7 +2,7 @@
 use Rattle.std.specs.Prelude.{◌≡◌, ◌⊎◌, ℕ, ◌^◌, ◌-◌, min, Bool, ◌==◌, List, [], ◌∷◌, ◌++◌, length, Ok}
 use Rattle.std.specs.List.{list_any}
 use Rattle.volume_layout.specs.declared.layout.Layout.{Layout}
-use Rattle.volume_layout.specs.Layout.{plan}
+use Rattle.volume_layout.specs.Layout.{IsPlanned}
 use Rattle.sector_disk.specs.declared.machine.Attach.TheVariants.{Old}
 use Rattle.sector_disk.specs.declared.machine.Machine.{Ghosts}
 use Rattle.sector_disk.specs.declared.sector.WeakRun.{WeakRun}
@@ -29,7 +29,7 @@ is_from_outside status = list_any (λ s. s == status) (4 ∷ 6 ∷ 7 ∷ [])
 
 -- The image is sound in the windows that the machine has.
 pub record IsSoundDisk (l : Layout) (windows : List WeakRun) (h : List Change) (f : ℕ) (now : Moment) : Type 0 where
-  pub planned : plan l.kind l.sectors l.third l.pages ≡ Ok l
+  pub planned : IsPlanned l
   pub ends : EndIn now.windows windows
   pub sound : IsSound l windows h f now.image
 

@@ -3,6 +3,7 @@ pub mod ChangeLaws
 pub mod CountLaws
 pub mod EachLaws
 pub mod FreshLaws
+pub mod GrownLaws
 pub mod HistoryLaws
 pub mod KeptLaws
 pub mod LeaderLaws
@@ -14,4 +15,3 @@ pub mod ScrubLaws
 pub mod WaitExamples
 pub mod WaitLaws
 pub mod WearLaws
-pub mod FoundLaws

@@ -19,7 +19,7 @@ entry_a = record { key = key_of (codes "a") 1; keep = 2; serial = record { epoch
 -- one version of two sectors, which a reader holds
 abbrev held : Volume
 held = record {
-  layout = record { sectors = 2048; third = 256; pages = 64; kind = Two };
+  layout = record { sectors = 2048; third = 256; pages = 64; kind = Two; most = 0 };
   files = (key_of (codes "a") 1, record { bytes = codes "x"; keep = 2 }) ∷ [];
   entries = entry_a ∷ [];
   removed = [];

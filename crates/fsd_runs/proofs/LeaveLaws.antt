@@ -4,7 +4,7 @@ use Rattle.std.specs.Prelude.{min}
 use Rattle.std.specs.List.{last_or}
 use Rattle.std.proofs.lemmas.List.{length-take, take-append-le}
 use Rattle.volume_layout.specs.declared.layout.Layout.{Layout}
-use Rattle.volume_layout.specs.Layout.{IsFormOf, turned}
+use Rattle.volume_layout.specs.Layout.{IsFormOf}
 use Rattle.volume_layout.specs.Root.{root_bytes}
 use Rattle.sector_disk.specs.declared.sector.Sector.TheVariants.{Whole}
 use Rattle.sector_disk.specs.declared.sector.WeakRun.{WeakRun}
@@ -14,8 +14,8 @@ use Rattle.fsd_files.specs.Volume.{Volume}
 use Rattle.sector_disk.specs.Machine.{Moment, Report}
 use Rattle.fsd_files.specs.Files.{Change}
 use Rattle.fsd_sound.specs.Laid.{HasOwnRoots}
-use Rattle.fsd_sound.specs.Sound.{IsPrefixOf, IsRootAt, IsSaid, SaysTurned, weak_of}
-use Rattle.fsd_sound.proofs.TurnedLaws.{said_sound}
+use Rattle.fsd_sound.specs.Sound.{IsPrefixOf, IsRootAt, IsSaid, Says, weak_of}
+use Rattle.fsd_sound.proofs.BesideLaws.{said_sound}
 use Rattle.fsd_sound.proofs.WindowLaws.{last_snoc}
 use Rattle.fsd_sound.proofs.SectorFacts.{has_bytes}
 use Rattle.fsd_texts.specs.declared.fault.Fault.{Fault}
@@ -62,16 +62,16 @@ one_more request weaker fact = tt
 
 -- ---- with the same machine
 
--- both of a disk's roots are as those of one that says the layout turned
-module _ (l own : Layout) (weak : Sectors) (i j : Image) (at_i : HasOwnRoots own weak i) (at_j : HasOwnRoots own weak j) (says : SaysTurned l i) where
-  root_is : root_bytes own ≡ root_bytes (turned l)
-  root_is = ⊎_elim (λ first. has_bytes weak i (root_bytes own) (root_bytes (turned l)) 0 at_i.0 first) (λ second. has_bytes weak i (root_bytes own) (root_bytes (turned l)) 4 at_i.1 second) says
+-- both of a disk's roots are as those of one that says this layout
+module _ (l other own k : Layout) (weak : Sectors) (i j : Image) (at_i : HasOwnRoots own weak i) (at_j : HasOwnRoots own weak j) (says : Says k i) where
+  root_is : root_bytes own ≡ root_bytes k
+  root_is = ⊎_elim (λ first. has_bytes weak i (root_bytes own) (root_bytes k) 0 at_i.0 first) (λ second. has_bytes weak i (root_bytes own) (root_bytes k) 4 at_i.1 second) says
 
-  root_there : (s : ℕ) → Has weak j (root_bytes own) s → IsRootAt l j s → sector_at j s ≡ Whole (root_bytes (turned l))
+  root_there : (s : ℕ) → Has weak j (root_bytes own) s → IsRootAt l other j s → sector_at j s ≡ Whole (root_bytes k)
   root_there s has root = root.1 ∙ ap (λ (bytes : List ℕ). Whole bytes) (sym (has_bytes weak j (root_bytes own) root.0 s has root.1) ∙ root_is)
 
-  turned_there : IsRootAt l j 0 ⊎ IsRootAt l j 4 → SaysTurned l j
-  turned_there some = ⊎_elim (λ first. inl (root_there 0 at_j.0 first)) (λ second. inr (root_there 4 at_j.1 second)) some
+  says_there : IsRootAt l other j 0 ⊎ IsRootAt l other j 4 → Says k j
+  says_there some = ⊎_elim (λ first. inl (root_there 0 at_j.0 first)) (λ second. inr (root_there 4 at_j.1 second)) some
 
 -- behind a run that has said all, what is held back is sound by each layout that is said
 pub replied_held : (l : Layout) (windows : List WeakRun) (run : WeakRun) (h : List Change) (n : ℕ) (turns : List Turn) (status : ℕ) (behind : Volume) (old new held : Moment) (result : ℕ)
@@ -81,7 +81,7 @@ replied_held l windows run h n turns status behind old new held result x layout 
   where
     there : IsSaid l new.image layout → IsSaid l held.image layout
     there (inl is) = inl is
-    there (inr (is, says)) = inr (is, turned_there l behind.layout (weak_of (windows ++ run ∷ [])) new.image held.image x.roots x.rooted says x.held.readable.roots.some)
+    there (inr (is, says)) = inr (is, says_there l x.held.readable.roots.other behind.layout layout (weak_of (windows ++ run ∷ [])) new.image held.image x.roots x.rooted says x.held.readable.roots.some)
 
 -- a run that neither says all nor has a fault counted says that memory was refused
 pub broken_by_memory : (request : Request) (Undone : ℕ → Image → Type 0) (UnderWay : ℕ → Type 0) (before after : Report) (turns : List Turn) (old new : Moment) (result : ℕ) → NoneRose before after

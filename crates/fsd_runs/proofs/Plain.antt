@@ -29,7 +29,7 @@ no_reader = meets plain
 -- right behind the first mount after a format
 abbrev pub fresh : (n t p : ℕ) → Volume
 fresh n t p = record {
-  layout = record { kind = Two; sectors = n; third = t; pages = p };
+  layout = record { kind = Two; sectors = n; third = t; pages = p; most = 0 };
   files = [];
   entries = [];
   removed = [];

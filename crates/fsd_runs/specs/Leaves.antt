@@ -185,8 +185,8 @@ pub record KeepsForced (h : List Change) (f : ℕ) (g : List Change) (n : ℕ) :
   pub forced : f ≤ n
   pub same : take f g ≡ take f h
 
--- the image is sound in the windows that the machine has then, with every change forced that was; by the layout, or the
--- same but for the damage that it bears
+-- the image is sound in the windows that the machine has then, with every change forced that was; by the layout, or
+-- one beside it
 pub record StaysSound (l : Layout) (h : List Change) (f : ℕ) (left : Moment) : Type 0 where
   pub layout : Layout
   pub form : IsFormOf l layout
@@ -265,7 +265,7 @@ abbrev pub LeavesBy : Request → (input rest : List ℕ) → Layout → List We
 LeavesBy request input rest l windows h f Past Stops began Only Held before after old new result =
     LeavesUnmounted request l windows h f Only Held before after old new result ⊎ LeavesMounted request input rest l windows h f Past Stops began Only Held before after old new result
 
--- so it is by the layout that the mount has read: this one, or it turned, where a root says so
+-- so it is by the layout that the mount has read: this one, or one beside it, where a root says so
 abbrev pub LeavesSaid : Request → (input rest : List ℕ) → Layout → List WeakRun → List Change → ℕ → (Past Stops : ℕ → Moment → Type 0) → (began : ℕ) → (Only Held : (Moment → Type 0) → Type 0) → (before after : Report) → (old new : Moment) → (result : ℕ) → Type 0
 LeavesSaid request input rest l windows h f Past Stops began Only Held before after old new result =
     (layout : Layout) × IsSaid l old.image layout × LeavesBy request input rest layout windows h f Past Stops began Only Held before after old new result

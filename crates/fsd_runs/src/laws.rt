@@ -48,7 +48,7 @@ pub fn each_command_has_an_answer()
 {}
 
 /// Whatever a stop leaves of a run over a sound disk is a sound disk again, in the windows that the machine has then,
-/// with every change forced that was, by the layout or its other form: so runs go on from each other.
+/// with every change forced that was, by the layout or one beside it: so runs go on from each other.
 pub fn stops_leave_sound_disks()
     ensures { (l layout : Layout) → IsFormOf l layout → (windows : List WeakRun) (run : WeakRun) (h : List Change) (f n : ℕ) (turns : List Turn) (old left : Moment) → IsPrefixOf h f n →
         last_or None windows ≡ old.windows.present → Left layout windows run h f n turns old left → StaysSound l h f left }

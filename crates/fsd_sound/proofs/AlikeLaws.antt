@@ -43,12 +43,15 @@ module _ (l : Layout) (i j : Image) (front : (s : ℕ) → 8 ≤ s → s < 16 + 
   pub whole_same : (s : ℕ) (P : List ℕ → Type 0) → 8 ≤ s → s < 16 + 3 * l.third → IfWhole i s P → IfWhole j s P
   whole_same s P from lt whole = λ bytes is. whole bytes (sym (front s from lt) ∙ is)
 
-  pub roots_same : (weak : Sectors) → length j ≡ length i → ((s : ℕ) → IsTrue (is_twin l s) → sector_at j s ≡ Damaged → sector_at i s ≡ Damaged) → ((s : ℕ) → s < 8 → sector_at j s ≡ sector_at i s) → HasRoots l weak i → HasRoots l weak j
+  pub roots_same : (weak : Sectors) → length i ≤ length j → ((s : ℕ) → IsTrue (is_twin l s) → sector_at j s ≡ Damaged → sector_at i s ≡ Damaged) → ((s : ℕ) → s < 8 → sector_at j s ≡ sector_at i s) → HasRoots l weak i → HasRoots l weak j
   roots_same weak size unhurt head h = record {
-    some = some_same l i j (head 0 (omega arith)) (head 4 (omega arith)) h.some;
+    planned = h.planned;
+    other = h.other;
+    beside = h.beside;
+    some = some_same l i j h.other (head 0 (omega arith)) (head 4 (omega arith)) h.some;
     first = λ bytes is. h.first bytes (sym (head 0 (omega arith)) ∙ is);
     second = λ bytes is. h.second bytes (sym (head 4 (omega arith)) ∙ is);
-    fits = subst (λ n. l.sectors ≤ n) (sym size) h.fits;
+    fits = omega (arith, size, h.fits);
     twins = λ s twin damaged. h.twins s twin (unhurt s twin damaged);
   }
 

@@ -7,7 +7,7 @@ use Rattle.std.proofs.lemmas.List.{length-set}
 use Rattle.volume_layout.specs.declared.layout.Layout.{Layout}
 use Rattle.volume_layout.specs.Layout.{home_a, home_b, turned}
 use Rattle.fsd_formats.specs.declared.anchor.Anchor.{Anchor}
-use Rattle.fsd_formats.specs.Anchors.{read_anchor}
+use Rattle.fsd_formats.specs.Anchors.{read_anchor, read_closed}
 use Rattle.sector_disk.specs.declared.sector.WeakRun.{WeakRun}
 use Rattle.sector_disk.specs.declared.sector.Sector.{Sector}
 use Rattle.sector_disk.specs.declared.sector.Sector.TheVariants.{Whole, Damaged}
@@ -17,6 +17,7 @@ use Rattle.fsd_log.specs.Images.{last_image}
 use Rattle.fsd_log.proofs.AnchorLaws.{third_in}
 use Rattle.fsd_files.specs.Disk.{Image, Sectors, bytes_of, bytes_at, first_whole}
 use Rattle.fsd_sound.specs.Anchors.{anchor_at, anchor_of, EachAnchor}
+use Rattle.fsd_sound.specs.Saved.{closed_at}
 use Rattle.fsd_sound.specs.Homes.{home_of}
 use Rattle.fsd_sound.specs.Laid.{AllLaid, IsLaid}
 use Rattle.fsd_sound.specs.Shown.{records_by, newest, each_of, all_pages, shown_by, shown}
@@ -24,6 +25,7 @@ use Rattle.fsd_sound.specs.Sound.{IfWhole, EachStamp, ScansAgree, ShowsOne, Show
 use Rattle.fsd_sound.specs.Stands.{StandsShown}
 use Rattle.fsd_sound.specs.Windows.{IsNarrow}
 use Rattle.fsd_sound.proofs.CommuteLaws.{same_or, with_same, with_other, all_over, shows_all, both_same, all_shows}
+use Rattle.fsd_sound.proofs.SavedLaws.{open_anchored}
 use Rattle.fsd_sound.proofs.EachLaws.{all_in_range, each_of_same}
 use Rattle.fsd_sound.proofs.LogPlaces.{IsRecord, SameLog, copies_same, front_same, in_record, laid_same, same_scan, scan_records}
 use Rattle.fsd_sound.proofs.RenewLaws.{AreAnchorPlaces}
@@ -155,7 +157,10 @@ module _ (l : Layout) (weak : Sectors) (choices : List (List (List ℕ))) (s t :
   mended_stands : StandsShown l weak choices (with_sector i s bytes)
   mended_stands = record {
     roots = record {
-      some = some_same l i j (head 0 (omega arith)) (head 4 (omega arith)) stands.roots.some;
+      planned = stands.roots.planned;
+      other = stands.roots.other;
+      beside = stands.roots.beside;
+      some = some_same l i j stands.roots.other (head 0 (omega arith)) (head 4 (omega arith)) stands.roots.some;
       first = λ b is. stands.roots.first b (sym (head 0 (omega arith)) ∙ is);
       second = λ b is. stands.roots.second b (sym (head 4 (omega arith)) ∙ is);
       fits = omega (arith, stands.roots.fits, length-set i s (Whole bytes));
@@ -164,7 +169,7 @@ module _ (l : Layout) (weak : Sectors) (choices : List (List (List ℕ))) (s t :
           (λ other. stands.roots.twins p twin (sym (j_other p other) ∙ gone)) (same_or p s);
     };
     empty = λ says. each_now (λ a. (records_by l j a ≡ []) × (records_by (turned l) j a ≡ [])) (on_twin (λ a. (records_by l i a ≡ []) × (records_by (turned l) i a ≡ [])) (λ a. (records_by l j a ≡ []) × (records_by (turned l) j a ≡ []))
-        (λ b low none. (records_same b low ∙ none.0, ap (λ (x : Walked). x.records) (same_scan (turned l) i j log_same b low) ∙ none.1)) (stands.empty (says_same l i j head says)));
+        (λ b low none. (records_same b low ∙ none.0, ap (λ (x : Walked). x.records) (same_scan (turned l) i j log_same b low) ∙ none.1)) (stands.empty (says_same (turned l) i j head says)));
     anchors = record {
       first = reads 8 stands.anchors.first;
       second = reads 12 stands.anchors.second;
@@ -195,7 +200,8 @@ pub anchor_shows : (l : Layout) (windows : List WeakRun) → IsNarrow (weak_of w
     → ShowsPages l windows choices c → ShowsPages l windows choices (with_sector c s bytes)
 anchor_shows l windows narrow choices s t at c bytes room whole hurt weak_s shows =
     all_shows l windows shows.readable.borne choices (with_sector c s bytes)
-    (both_same l windows c (with_sector c s bytes) shows.readable (λ p head. with_other c s p bytes (λ e. elim at [ inl o ↦ omega (arith, e, o.0, head) | inr o ↦ omega (arith, e, o.0, head) ])))
+    (both_same l windows choices c (with_sector c s bytes) shows (omega (arith, length-set c s (Whole bytes))) (λ p head. with_other c s p bytes (λ e. elim at [ inl o ↦ omega (arith, e, o.0, head) | inr o ↦ omega (arith, e, o.0, head) ]))
+    (λ was. open_anchored c s t bytes at room (sym (ap (λ (x : Sector). option_and_then read_closed (bytes_of x)) whole) ∙ ⊎_elim (λ o. ap (closed_at c) o.1 ∙ was.1) (λ o. ap (closed_at c) o.1 ∙ was.0) at) was))
     (all_over (weak_of windows) (StandsShown l (weak_of windows) choices) c s bytes room (shows_all l windows narrow choices c shows)
     (λ i worn there stands. mended_stands l (weak_of windows) choices s t at i bytes (omega (arith, room, worn.size))
     (⊎_elim (λ same. same ∙ whole) (λ worse. absurd (anchors_apart (weak_of windows) narrow s t at weak_s worse.0)) (worn.each t)) (there ∙ hurt) stands))

@@ -2,6 +2,7 @@
 use Rattle.std.proofs.Common.{◌≡◌, ◌⊎◌, inl, inr, ⊎_elim, ℕ, ◌≤◌, Bool, false, List, [], ◌∷◌, get_or, Option, Some, None, refl, sym, ap, subst, ◌∙◌, arith}
 use Rattle.std.specs.Prelude.{IsTrue, IfSome, IsSome, option_and_then}
 use Rattle.volume_layout.specs.declared.layout.Layout.{Layout}
+use Rattle.volume_layout.specs.Layout.{turned}
 use Rattle.volume_layout.specs.Root.{root_bytes}
 use Rattle.fsd_formats.specs.declared.anchor.Anchor.{Anchor}
 use Rattle.fsd_formats.specs.Anchors.{anchor_bytes, read_anchor}
@@ -18,7 +19,7 @@ use Rattle.fsd_sound.specs.Laid.{IsLaid, HasOwnLog, HasOwnRoots}
 use Rattle.fsd_sound.specs.Shown.{records_by, shown_by, shown}
 use Rattle.fsd_sound.specs.Sound.{HasRoots, EachStamp, HasAnchors, HasLog, ScansAgree, disk_records, IsSuffix, HasHomes, ShowsOne, ShowsPages, weak_of, is_twin, BearsLast}
 use Rattle.fsd_sound.proofs.FreshLaws.{anchor_stands}
-use Rattle.fsd_sound.proofs.SaidLaws.{own_roots_say}
+use Rattle.fsd_sound.proofs.SaidLaws.{own_alone}
 use Rattle.fsd_sound.proofs.SectorFacts.{same_bytes, not_damaged}
 use Rattle.fsd_sound.proofs.TwinLaws.{each_twin}
 use Rattle.fsd_sound.proofs.HomedLaws.{stamps_up, fresh_log, no_records, homes_alike, pages_are}
@@ -38,6 +39,9 @@ module _ (l : Layout) (epoch : ℕ) (pages : List (List ℕ)) (i : Image) (is : 
 
   has_roots : (weak : Sectors) → HasRoots l weak i
   has_roots weak = record {
+    planned = homed.planned;
+    other = turned l;
+    beside = inl refl;
     some = inl (root_bytes l, homed.root, inl refl);
     first = λ bytes e. inl (same_bytes (sector_at i 0) (root_bytes l) bytes homed.root e);
     second = λ bytes e. inl (same_bytes (sector_at i 4) (root_bytes l) bytes homed.root_copy e);
@@ -143,11 +147,12 @@ module _ (l : Layout) (epoch : ℕ) (pages : List (List ℕ)) (i : Image) (is : 
     readable = record {
       borne = borne;
       roots = has_roots (weak_of windows);
-      either = λ says. absurd (own_roots_say l (weak_of windows) i (own_roots (weak_of windows)) says);
+      either = λ k beside says. absurd (own_alone l k (weak_of windows) i homed.planned (own_roots (weak_of windows)) beside says);
       anchors = has_anchors;
       log = λ j w. log_is (weak_of windows) j w narrow;
       homes = λ j w. homes_worn (weak_of windows) j w;
     };
+    within = λ k beside says. absurd (own_alone l k (weak_of windows) i homed.planned (own_roots (weak_of windows)) beside says);
     shows = λ j w. subst (ShowsOne (pages ∷ [])) (sym (shown_is (weak_of windows) j w narrow)) (0, omega arith, refl);
   }
 

@@ -18,7 +18,7 @@ use Rattle.fsd_files.specs.Disk.{Image, Sectors, in_runs}
 use Rattle.fsd_files.specs.Files.{Change, after}
 use Rattle.fsd_sound.specs.Saved.{SavesPages}
 use Rattle.fsd_sound.specs.Shown.{shown}
-use Rattle.fsd_sound.specs.Sound.{Tells, weak_of, IsSound, ShowsOne}
+use Rattle.fsd_sound.specs.Sound.{EachBeside, LiesIn, Tells, weak_of, IsSound, ShowsOne}
 use Rattle.fsd_sound.specs.Choices.{TellsChoices}
 use Rattle.fsd_sound.proofs.CommuteLaws.{same_or}
 use Rattle.fsd_sound.proofs.FrontLaws.{SameFront, graft, graft_same, graft_worn, graft_rest, shown_same}
@@ -143,12 +143,16 @@ module _ (l : Layout) (windows : List WeakRun) (h : List Change) (f : ℕ) (i : 
   tells_data k same None tells = tells
   tells_data k same (Some telling) tells = (tells.0, tells.1, describes_data l (in_runs windows) (after (Rattle.std.specs.Prelude.take tells.0 h)) telling.entries k i (λ s ge. inl (same s ge)) tells.2)
 
-  -- it tells a prefix of the changes, and what the saved map says
-  abbrev IsChosen : List (List ℕ) → Type 0
-  IsChosen pages = Tells l (in_runs windows) i h f (told_in pages) × SavesPages l i pages
+  -- what is told of the one image, and lies in the data area of each layout that a root says
+  abbrev IsToldOf : Option Telling → Type 0
+  IsToldOf o = Tells l (in_runs windows) i h f o × EachBeside l i (λ k. LiesIn k o)
 
-  shown_of : (j : Image) (o : Option (List (List ℕ))) → IsWorn (weak_of windows) i j → shown l j ≡ o → Tells l (in_runs windows) i h f (option_and_then told_in o) → (pages : List (List ℕ)) × (shown l j ≡ Some pages) × IsChosen pages
-  shown_of j None w is tells = absurd tells
+  -- and what the saved map says
+  abbrev IsChosen : List (List ℕ) → Type 0
+  IsChosen pages = IsToldOf (told_in pages) × SavesPages l i pages
+
+  shown_of : (j : Image) (o : Option (List (List ℕ))) → IsWorn (weak_of windows) i j → shown l j ≡ o → IsToldOf (option_and_then told_in o) → (pages : List (List ℕ)) × (shown l j ≡ Some pages) × IsChosen pages
+  shown_of j None w is tells = absurd tells.0
   shown_of j (Some pages) w is tells = (pages, is, (tells, sound.saved j w pages is))
 
   -- the front of a worn image before the data of this one
@@ -157,17 +161,18 @@ module _ (l : Layout) (windows : List WeakRun) (h : List Change) (f : ℕ) (i : 
       let long = sound.readable.roots.fits in
       let still : SameFront l i i = λ s lt. refl in
       let k : Image = graft l j i in
-      let grafted = graft_worn l (weak_of windows) i i j still refl long room w in
-      let same = shown_same l (graft l j i) j (graft_same l (weak_of windows) i i j still refl long room w) in
-      let tells = tells_data (graft l j i) (λ s ge. sym (graft_rest l (weak_of windows) i i j still refl long room w s ge)) (option_and_then told_in (shown l (graft l j i))) (sound.tells (graft l j i) grafted) in
-      shown_of j (shown l j) w refl (subst (λ (o : Option (List (List ℕ))). Tells l (in_runs windows) i h f (option_and_then told_in o)) (sym same) tells)
+      let grafted = graft_worn l (weak_of windows) i i j still (omega arith) long room w in
+      let same = shown_same l (graft l j i) j (graft_same l (weak_of windows) i i j still (omega arith) long room w) in
+      let tells = tells_data (graft l j i) (λ s ge. sym (graft_rest l (weak_of windows) i i j still (omega arith) long room w s ge)) (option_and_then told_in (shown l (graft l j i))) (sound.tells (graft l j i) grafted) in
+      let within : EachBeside l i (λ k. LiesIn k (option_and_then told_in (shown l (graft l j i)))) = λ k beside says. sound.within k beside says (graft l j i) grafted in
+      shown_of j (shown l j) w refl (subst (λ (o : Option (List (List ℕ))). IsToldOf (option_and_then told_in o)) (sym same) (tells, within))
 
   pub shows_choices : TellsChoices l windows h f i
   shows_choices =
       let all = choices_in l IsChosen (last_or None windows) i each_shown in
       record {
         choices = all.lists;
-        shows = record { readable = sound.readable; shows = all.shows };
-        tells = λ pages one. (all.each pages one).0;
+        shows = record { readable = sound.readable; within = λ k beside says pages one. (all.each pages one).0.1 k beside says; shows = all.shows };
+        tells = λ pages one. (all.each pages one).0.0;
         saved = λ pages one. (all.each pages one).1;
       }

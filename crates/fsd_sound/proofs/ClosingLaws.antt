@@ -30,7 +30,7 @@ use Rattle.fsd_table.specs.Table.{told_in}
 use Rattle.fsd_files.proofs.KeptLaws.{kept_worn}
 use Rattle.fsd_sound.specs.Anchors.{anchor_at, anchor_of, EachAnchor}
 use Rattle.fsd_sound.specs.Homes.{home_of}
-use Rattle.fsd_sound.specs.Laid.{IsLaid}
+use Rattle.fsd_sound.specs.Laid.{HasOwnRoots, IsLaid}
 use Rattle.fsd_sound.specs.Mounted.{HasForced, IsMounted, Mounted}
 use Rattle.fsd_sound.specs.Saved.{AreSaved, EachClosed, SavesPages, closed_at, map_of}
 use Rattle.fsd_sound.specs.Shown.{all_pages, each_of, newest, records_by, shown, shown_by}
@@ -39,7 +39,7 @@ use Rattle.fsd_sound.specs.Stands.{StandsShown}
 use Rattle.fsd_sound.specs.Windows.{IsNarrow}
 use Rattle.fsd_sound.proofs.AlikeLaws.{suffix_same}
 use Rattle.fsd_sound.proofs.AnchorFacts.{if_some_on, some_third, taken_third}
-use Rattle.fsd_sound.proofs.CommuteLaws.{all_over, all_shows, both_same, same_or, shows_all, with_other, with_same}
+use Rattle.fsd_sound.proofs.CommuteLaws.{all_over, all_shows, both_own, same_or, shows_all, with_other, with_same}
 use Rattle.fsd_sound.proofs.LogPlaces.{SameLog, laid_same, same_scan, scan_records}
 use Rattle.fsd_files.proofs.WaitLaws.{open_in_area}
 use Rattle.fsd_sound.proofs.FrontLaws.{SameFront, front_shows}
@@ -179,7 +179,10 @@ module _ (l : Layout) (s : ℕ) (place : (s ≡ 8) ⊎ (s ≡ 12)) (a : Anchor) 
 
   roots_now : (weak : Sectors) → HasRoots l weak i → HasRoots l weak j
   roots_now weak roots = record {
-    some = some_same l i j (head 0 (omega arith)) (head 4 (omega arith)) roots.some;
+    planned = roots.planned;
+    other = roots.other;
+    beside = roots.beside;
+    some = some_same l i j roots.other (head 0 (omega arith)) (head 4 (omega arith)) roots.some;
     first = λ b is. roots.first b (sym (head 0 (omega arith)) ∙ is);
     second = λ b is. roots.second b (sym (head 4 (omega arith)) ∙ is);
     fits = omega (arith, roots.fits, length-set i s (Whole (closed_bytes a)));
@@ -189,19 +192,19 @@ module _ (l : Layout) (s : ℕ) (place : (s ≡ 8) ⊎ (s ≡ 12)) (a : Anchor) 
   closed_stands : (weak : Sectors) (choices : List (List (List ℕ))) → StandsShown l weak choices i → StandsShown l weak choices j
   closed_stands weak choices stands = record {
     roots = roots_now weak stands.roots;
-    empty = λ says. unlogged (stands.empty (says_same l i j head says));
+    empty = λ says. unlogged (stands.empty (says_same (turned l) i j head says));
     anchors = anchors_now stands.anchors;
     log = log_now weak stands.log;
     homes = homes_now stands.homes;
     shows = subst (ShowsOne choices) (sym shown_same) stands.shows;
   }
 
--- the anchor that stands in a sector is closed there, and the same pages are shown
+-- the anchor that stands in a sector is closed there, where the roots are the layout's own, and the same pages are shown
 pub closed_shows : (l : Layout) (windows : List WeakRun) → IsNarrow (weak_of windows) → (choices : List (List (List ℕ))) (s : ℕ) → (s ≡ 8) ⊎ (s ≡ 12) → (a : Anchor) → is_anchor a ≡ true → a.epoch < 2 ^ 32 → a.first < 2 ^ 32
-    → (c : Image) → s < length c → sector_at c s ≡ Whole (anchor_bytes a) → ShowsPages l windows choices c → ShowsPages l windows choices (with_sector c s (closed_bytes a))
-closed_shows l windows narrow choices s place a fits epoch first c room was shows =
+    → (c : Image) → s < length c → sector_at c s ≡ Whole (anchor_bytes a) → HasOwnRoots l (weak_of windows) c → ShowsPages l windows choices c → ShowsPages l windows choices (with_sector c s (closed_bytes a))
+closed_shows l windows narrow choices s place a fits epoch first c room was own shows =
     all_shows l windows shows.readable.borne choices (with_sector c s (closed_bytes a))
-    (both_same l windows c (with_sector c s (closed_bytes a)) shows.readable (head l s place a fits epoch first c room was))
+    (both_own l (weak_of windows) windows choices c (with_sector c s (closed_bytes a)) shows.readable.roots.planned own (λ k. says_same k c (with_sector c s (closed_bytes a)) (head l s place a fits epoch first c room was)))
     (all_over (weak_of windows) (StandsShown l (weak_of windows) choices) c s (closed_bytes a) room (shows_all l windows narrow choices c shows)
     (λ i worn there stands. closed_stands l s place a fits epoch first i (omega (arith, room, worn.size)) (there ∙ was) (weak_of windows) choices stands))
 
@@ -291,7 +294,7 @@ map_may_be_written m windows h f i j size front behind is =
       disk = is.disk;
       records = is.records;
       over = record {
-        shows = front_shows m.volume.layout windows (is.disk ∷ []) i j is.room front size is.over.shows;
+        shows = front_shows m.volume.layout windows (is.disk ∷ []) i j is.room front (omega (arith, size)) is.over.shows;
         own = own_same m.volume.layout m.anchor (weak_of windows) i j front is.third is.records m.head is.over.own;
         clean = is.over.clean;
       };

@@ -1,19 +1,21 @@
 -- Wear and a write of one sector change places.
-use Rattle.std.proofs.Common.{◌≡◌, ◌≢◌, ◌⊎◌, inl, inr, ⊎_elim, ℕ, ◌<◌, List, length, set, sym, ap, subst, ◌∙◌, arith}
+use Rattle.std.proofs.Common.{◌≡◌, ◌≢◌, ◌⊎◌, inl, inr, ⊎_elim, ℕ, ◌<◌, ◌≤◌, List, length, set, refl, sym, ap, subst, ◌∙◌, arith}
 use Rattle.std.specs.Prelude.{IsTrue}
 use Rattle.std.proofs.lemmas.Bool.{cases_lt}
 use Rattle.std.proofs.lemmas.List.{length-set, get_or_past, get_or-set_same, get_or-set_other, ext_get_or}
 use Rattle.volume_layout.specs.declared.layout.Layout.{Layout}
-use Rattle.volume_layout.specs.Layout.{turned}
+use Rattle.volume_layout.specs.Layout.{IsBeside, IsPlanned, IsSized, turned}
 use Rattle.volume_layout.specs.Root.{root_bytes}
 use Rattle.sector_disk.specs.declared.sector.WeakRun.{WeakRun}
 use Rattle.sector_disk.specs.declared.sector.Sector.TheVariants.{Whole, Damaged}
 use Rattle.sector_disk.specs.Image.{sector_at, with_sector, IsWorn, AllWorn}
 use Rattle.fsd_files.specs.Disk.{Image, Sectors}
 use Rattle.sector_disk.proofs.Wear.{worn_refl}
-use Rattle.fsd_sound.specs.Sound.{ShowsPages, weak_of, BearsLast, IsReadable, LogsNothing, SaysTurned}
+use Rattle.fsd_sound.specs.Laid.{HasOwnRoots}
+use Rattle.fsd_sound.specs.Saved.{IsOpen}
+use Rattle.fsd_sound.specs.Sound.{ShowsPages, weak_of, AllLieIn, BearsLast, EachBeside, LogsNothing, Says, SaysTurned}
 use Rattle.fsd_sound.proofs.AlikeLaws.{unlogged_same}
-use Rattle.fsd_sound.proofs.SaidLaws.{says_same, says_worn}
+use Rattle.fsd_sound.proofs.SaidLaws.{own_alone, says_same, says_worn}
 use Rattle.fsd_sound.proofs.SectorFacts.{not_damaged}
 use Rattle.fsd_sound.proofs.SoundLaws.{shows_still}
 use Rattle.fsd_sound.specs.Stands.{StandsShown, IsWrittenOver}
@@ -93,7 +95,7 @@ shows_all l windows narrow choices c shows = λ j w.
     let at = shows_still l windows narrow choices c j w shows in
     record {
       roots = at.readable.roots;
-      empty = λ says. (shows.readable.either (says_worn l c j (weak_of windows) w says)).empty j w;
+      empty = λ says. (shows.readable.either (turned l) (inl refl) (says_worn (turned l) c j (weak_of windows) w says)).empty refl j w;
       anchors = at.readable.anchors;
       log = shows.readable.log j w;
       homes = shows.readable.homes j w;
@@ -118,21 +120,39 @@ module _ (l : Layout) (weak : Sectors) (choices : List (List (List ℕ))) (c : I
   all_unlogged : LogsNothing l j
   all_unlogged = ⊎_elim (λ root. unlogged_without 0 (omega arith) root (λ k is. inl is)) (λ root. unlogged_without 4 (omega arith) root (λ k is. inr is)) says
 
--- where the roots are as they were the layout turned bears the last run as before
-pub both_same : (l : Layout) (windows : List WeakRun) (c j : Image) → IsReadable l windows c → ((s : ℕ) → s < 8 → sector_at j s ≡ sector_at c s) → SaysTurned l j → BearsLast (turned l) windows
-both_same l windows c j readable head says = (readable.either (says_same l c j head says)).borne
+-- each layout beside this one that a root says bears the last window's run and has room, and what the lists tell lies in it;
+-- where it has another number of sectors, the volume is open
+abbrev pub BearsBeside : Layout → List WeakRun → List (List (List ℕ)) → Image → Type 0
+BearsBeside l windows choices c = EachBeside l c (λ k. BearsLast k windows × (k.sectors ≤ length c) × AllLieIn k choices × (IsSized l k → IsOpen c))
 
-pub all_shows : (l : Layout) (windows : List WeakRun) → BearsLast l windows → (choices : List (List (List ℕ))) (c : Image) → (SaysTurned l c → BearsLast (turned l) windows) → AllWorn (weak_of windows) (StandsShown l (weak_of windows) choices) c → ShowsPages l windows choices c
+-- where no root says more than before it is so as before
+pub both_before : (l : Layout) (windows : List WeakRun) (choices : List (List (List ℕ))) (c j : Image) → ShowsPages l windows choices c → length c ≤ length j → ((k : Layout) → Says k j → Says k c) → (IsOpen c → IsOpen j) → BearsBeside l windows choices j
+both_before l windows choices c j shows size before opens k beside says =
+    let either = shows.readable.either k beside (before k says) in
+    (either.borne, omega (arith, either.fits, size), shows.within k beside (before k says), λ sized. opens (either.opened sized))
+
+-- and where the roots are as they were
+pub both_same : (l : Layout) (windows : List WeakRun) (choices : List (List (List ℕ))) (c j : Image) → ShowsPages l windows choices c → length c ≤ length j → ((s : ℕ) → s < 8 → sector_at j s ≡ sector_at c s) → (IsOpen c → IsOpen j) → BearsBeside l windows choices j
+both_same l windows choices c j shows size head opens = both_before l windows choices c j shows size (λ k. says_same k c j head) opens
+
+-- and where each root is the layout's own, and none says more
+pub both_own : (l : Layout) (weak : Sectors) (windows : List WeakRun) (choices : List (List (List ℕ))) (c j : Image) → IsPlanned l → HasOwnRoots l weak c → ((k : Layout) → Says k j → Says k c) → BearsBeside l windows choices j
+both_own l weak windows choices c j planned own before k beside says = absurd (own_alone l k weak c planned own beside (before k says))
+
+pub all_shows : (l : Layout) (windows : List WeakRun) → BearsLast l windows → (choices : List (List (List ℕ))) (c : Image) → BearsBeside l windows choices c → AllWorn (weak_of windows) (StandsShown l (weak_of windows) choices) c → ShowsPages l windows choices c
 all_shows l windows borne choices c both all =
     let here = all c (worn_refl (weak_of windows) c) in
     record {
       readable = record {
         borne = borne;
         roots = here.roots;
-        either = λ says. record { borne = both says; empty = all_unlogged l (weak_of windows) choices c all says };
+        either = λ k beside says.
+            let bears = both k beside says in
+            record { borne = bears.0; fits = bears.1; empty = λ is. all_unlogged l (weak_of windows) choices c all (subst (λ (x : Layout). Says x c) is says); opened = bears.3 };
         anchors = here.anchors;
         log = λ j w. (all j w).log;
         homes = λ j w. (all j w).homes;
       };
+      within = λ k beside says. (both k beside says).2;
       shows = λ j w. (all j w).shows;
     }

@@ -32,7 +32,8 @@ use Rattle.fsd_sound.specs.Stands.{StandsShown}
 use Rattle.fsd_sound.specs.Windows.{IsNarrow, IsApart}
 use Rattle.fsd_sound.proofs.AnchorFacts.{IsAnchor}
 use Rattle.fsd_log.proofs.RobustLaws.{rows_of}
-use Rattle.fsd_sound.proofs.CommuteLaws.{same_or, with_same, with_other, all_over, whole_inside, shows_all, all_shows}
+use Rattle.fsd_sound.proofs.CommuteLaws.{same_or, with_same, with_other, all_over, both_same, whole_inside, shows_all, all_shows}
+use Rattle.fsd_sound.proofs.SavedLaws.{open_written}
 use Rattle.fsd_sound.proofs.CoverLaws.{Covers, covers, is_anchor_at, ends_so, same_last, map_snoc, not_nil}
 use Rattle.fsd_sound.proofs.CompleteLaws.{IsLastBy, row_has, copy_stands, y_worn, same_records, laid_still, x_bears}
 use Rattle.fsd_sound.proofs.AlikeLaws.{suffix_same}
@@ -277,7 +278,10 @@ module _ (l : Layout) (small : l.pages ≤ 2 ^ 32) (windows : List WeakRun) (apa
           let z_s : sector_at z s ≡ Whole x = with_same i s x (omega (arith, s_to, long_i)) in
           record {
             roots = record {
-              some = some_same l i z (front_z 0 (omega arith)) (front_z 4 (omega arith)) stands.roots.some;
+              planned = stands.roots.planned;
+              other = stands.roots.other;
+              beside = stands.roots.beside;
+              some = some_same l i z stands.roots.other (front_z 0 (omega arith)) (front_z 4 (omega arith)) stands.roots.some;
               first = λ bytes is. stands.roots.first bytes (sym (front_z 0 (omega arith)) ∙ is);
               second = λ bytes is. stands.roots.second bytes (sym (front_z 4 (omega arith)) ∙ is);
               fits = omega (arith, stands.roots.fits, length-set i s (Whole x));
@@ -285,7 +289,7 @@ module _ (l : Layout) (small : l.pages ≤ 2 ^ 32) (windows : List WeakRun) (apa
                   (λ at. absurd (let h : sector_at z s ≡ Damaged = ap (sector_at z) (sym at) ∙ hurt in cc (z_s, h)))
                   (λ other. stands.roots.twins p twin (sym (z_other p other) ∙ hurt)) (same_or p s);
             };
-            empty = λ says. absurd (is_logged (says_worn l c i (weak_of windows) worn (says_same l i z (λ p lt. front_z p (omega (arith, lt))) says)));
+            empty = λ says. absurd (is_logged (says_worn (turned l) c i (weak_of windows) worn (says_same (turned l) i z (λ p lt. front_z p (omega (arith, lt))) says)));
             anchors = record {
               first = λ bytes is. stands.anchors.first bytes (sym (front_z 8 (omega arith)) ∙ is);
               second = λ bytes is. stands.anchors.second bytes (sym (front_z 12 (omega arith)) ∙ is);
@@ -319,7 +323,8 @@ module _ (l : Layout) (small : l.pages ≤ 2 ^ 32) (windows : List WeakRun) (apa
         (λ whole.
         let back : with_sector c f x ≡ c = set_back c f x (omega (arith, long, f_to whole c (worn_refl (weak_of windows) c))) whole in
         record {
-          shows = all_shows l windows shows.readable.borne choices (with_sector c s x) (λ says. absurd (is_logged (says_same l c (with_sector c s x) (λ p lt. with_other c s p x (λ e. let from = s_from whole c (worn_refl (weak_of windows) c) in omega (arith, e, lt, from))) says)))
+          shows = all_shows l windows shows.readable.borne choices (with_sector c s x) (both_same l windows choices c (with_sector c s x) shows (omega (arith, length-set c s (Whole x))) (λ p lt. with_other c s p x (λ e. let from = s_from whole c (worn_refl (weak_of windows) c) in omega (arith, e, lt, from)))
+              (open_written c s x (λ e. let from = s_from whole c (worn_refl (weak_of windows) c) in omega (arith, e, from)) (λ e. let from = s_from whole c (worn_refl (weak_of windows) c) in omega (arith, e, from))))
               (all_over (weak_of windows) (StandsShown l (weak_of windows) choices) c s x (omega (arith, long, s_to whole c (worn_refl (weak_of windows) c))) all
               (λ i worn there stands. completed_stands whole i worn stands));
           taken = taken_y whole c (worn_refl (weak_of windows) c) ∙ ap anchor_of back ∙ taken;

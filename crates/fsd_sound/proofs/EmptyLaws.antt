@@ -1,5 +1,5 @@
 -- A volume's own log that has no record is empty in either form, so its roots may be turned.
-use Rattle.std.proofs.Common.{◌≡◌, ℕ, ◌+◌, ◌*◌, ◌^◌, ◌<◌, ◌≤◌, List, [], Option, Some, None, sym, ap, subst, refl, ◌∙◌, arith}
+use Rattle.std.proofs.Common.{◌≡◌, ℕ, ◌+◌, ◌*◌, ◌^◌, ◌<◌, ◌≤◌, List, [], length, Option, Some, None, sym, ap, subst, refl, ◌∙◌, arith}
 use Rattle.std.specs.Prelude.{IfSome, option_and_then}
 use Rattle.std.proofs.lemmas.List.{nil_from_length}
 use Rattle.volume_layout.specs.declared.layout.Layout.{Layout}
@@ -67,8 +67,8 @@ module _ (l : Layout) (few : l.pages ≤ 2 ^ 32) (a : Anchor) (h : Head) (window
       at_place s None is same = tt
       at_place s (Some b) is same = none_by j w b (is_anchor_at j s b is) same
 
-  pub empty_is_either : BearsLast (turned l) windows → IsEither l windows i
-  empty_is_either both = record { borne = both; empty = none_logged }
+  pub empty_is_either : BearsLast (turned l) windows → l.sectors ≤ length i → IsEither l (turned l) windows i
+  empty_is_either both fits = record { borne = both; fits = fits; empty = λ is. none_logged; opened = λ sized. own.opened }
 
 -- ---- a log whose next record is the first
 

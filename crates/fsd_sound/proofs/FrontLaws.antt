@@ -23,6 +23,7 @@ use Rattle.fsd_sound.proofs.AnchorFacts.{taken_third}
 use Rattle.fsd_sound.proofs.EachLaws.{all_in_range, each_of_same}
 use Rattle.fsd_sound.proofs.SaidLaws.{says_same}
 use Rattle.fsd_sound.proofs.TwinLaws.{each_twin}
+use Rattle.fsd_sound.proofs.SavedLaws.{closes_none, stays_open}
 
 abbrev pub SameFront : Layout → Image → Image → Type 0
 SameFront l i j = (s : ℕ) → s < map_start l → sector_at j s ≡ sector_at i s
@@ -58,7 +59,7 @@ module _ (l : Layout) (i j : Image) (same : SameFront l i j) where
       by_anchor None low = refl
       by_anchor (Some a) low = shown_by_same a low
 
-  roots_front : (weak : Sectors) → length j ≡ length i → HasRoots l weak i → HasRoots l weak j
+  roots_front : (weak : Sectors) → length i ≤ length j → HasRoots l weak i → HasRoots l weak j
   roots_front weak size = roots_same l i j log_front weak size (λ s twin hurt. sym (same s (twin_front l s twin)) ∙ hurt) (λ s lt. same s (omega (arith, lt)))
 
   homes_same : HasHomes l i → HasHomes l j
@@ -72,7 +73,7 @@ module _ (l : Layout) (i j : Image) (same : SameFront l i j) where
 abbrev pub graft : Layout → Image → Image → Image
 graft l k i = take (map_start l) k ++ drop (map_start l) i
 
-module _ (l : Layout) (weak : Sectors) (i j k : Image) (same : SameFront l i j) (size : length j ≡ length i) (long : l.sectors ≤ length i) (room : map_start l ≤ l.sectors) (worn : IsWorn weak j k) where
+module _ (l : Layout) (weak : Sectors) (i j k : Image) (same : SameFront l i j) (size : length i ≤ length j) (long : l.sectors ≤ length i) (room : map_start l ≤ l.sectors) (worn : IsWorn weak j k) where
   front_size : length (take (map_start l) k) ≡ map_start l
   front_size = length-take-le (map_start l) k (omega (arith, worn.size, size, long, room))
 
@@ -101,7 +102,7 @@ module _ (l : Layout) (weak : Sectors) (i j k : Image) (same : SameFront l i j) 
   }
 
 -- an image with the same front shows the same pages, whatever stands behind it
-pub front_shows : (l : Layout) (windows : List WeakRun) (choices : List (List (List ℕ))) (i j : Image) → map_start l ≤ l.sectors → SameFront l i j → length j ≡ length i → ShowsPages l windows choices i → ShowsPages l windows choices j
+pub front_shows : (l : Layout) (windows : List WeakRun) (choices : List (List (List ℕ))) (i j : Image) → map_start l ≤ l.sectors → SameFront l i j → length i ≤ length j → ShowsPages l windows choices i → ShowsPages l windows choices j
 front_shows l windows choices i j room same size shows =
     let long = shows.readable.roots.fits in
     let weak = weak_of windows in
@@ -109,15 +110,18 @@ front_shows l windows choices i j room same size shows =
       readable = record {
         borne = shows.readable.borne;
         roots = roots_front l i j same weak size shows.readable.roots;
-        either = λ says.
-            let was = shows.readable.either (says_same l i j (λ s lt. same s (omega (arith, lt))) says) in
+        either = λ o beside says.
+            let was = shows.readable.either o beside (says_same o i j (λ s lt. same s (omega (arith, lt))) says) in
             record {
               borne = was.borne;
-              empty = λ k worn. unlogged_same l (graft l k i) k (log_front l (graft l k i) k (graft_same l weak i j k same size long room worn)) (was.empty (graft l k i) (graft_worn l weak i j k same size long room worn));
+              fits = omega (arith, was.fits, size);
+              empty = λ is k worn. unlogged_same l (graft l k i) k (log_front l (graft l k i) k (graft_same l weak i j k same size long room worn)) (was.empty is (graft l k i) (graft_worn l weak i j k same size long room worn));
+              opened = λ sized. stays_open i j (closes_none i j (λ bytes there. ap bytes_of (sym (same 8 (omega arith))) ∙ there) (λ bytes there. ap bytes_of (sym (same 12 (omega arith))) ∙ there)) (was.opened sized);
             };
         anchors = anchors_same l i j (log_front l i j same) shows.readable.anchors;
         log = λ k worn. has_log_same l (graft l k i) k (log_front l (graft l k i) k (graft_same l weak i j k same size long room worn)) weak (shows.readable.log (graft l k i) (graft_worn l weak i j k same size long room worn));
         homes = λ k worn. homes_same l (graft l k i) k (graft_same l weak i j k same size long room worn) (shows.readable.homes (graft l k i) (graft_worn l weak i j k same size long room worn));
       };
+      within = λ o beside says. shows.within o beside (says_same o i j (λ s lt. same s (omega (arith, lt))) says);
       shows = λ k worn. subst (ShowsOne choices) (sym (shown_same l (graft l k i) k (graft_same l weak i j k same size long room worn))) (shows.shows (graft l k i) (graft_worn l weak i j k same size long room worn));
     }

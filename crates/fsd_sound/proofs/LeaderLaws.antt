@@ -67,7 +67,7 @@ leader_mounted m windows h f i j s size leads same stands is =
       disk = is.disk;
       records = is.records;
       over = record {
-        shows = front_shows m.volume.layout windows (is.disk ∷ []) i j is.room front size is.over.shows;
+        shows = front_shows m.volume.layout windows (is.disk ∷ []) i j is.room front (omega (arith, size)) is.over.shows;
         own = own_same m.volume.layout m.anchor (weak_of windows) i j front is.third is.records m.head is.over.own;
         clean = is.over.clean;
       };

@@ -2,6 +2,7 @@ pub mod AlikeLaws
 pub mod AnchorFacts
 pub mod AnchorMendLaws
 pub mod BegunLaws
+pub mod BesideLaws
 pub mod ChoiceLaws
 pub mod ClosingLaws
 pub mod CommuteLaws
@@ -14,6 +15,7 @@ pub mod EmptyLaws
 pub mod FormatSoundLaws
 pub mod FreshLaws
 pub mod FrontLaws
+pub mod GrowingLaws
 pub mod HomedLaws
 pub mod LaidLaws
 pub mod LeaderLaws
@@ -27,10 +29,12 @@ pub mod OpenLaws
 pub mod PagesLaws
 pub mod RehomeLaws
 pub mod RenewLaws
+pub mod RootingLaws
 pub mod SaidLaws
 pub mod SavedLaws
 pub mod SectorFacts
 pub mod SettleLaws
+pub mod SizedLaws
 pub mod SoundLaws
 pub mod StillLaws
 pub mod TurnedLaws

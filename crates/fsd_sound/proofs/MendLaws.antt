@@ -3,28 +3,32 @@ use Rattle.std.proofs.Common.{◌≡◌, ◌≢◌, ◌⊎◌, inl, inr, ⊎_eli
 use Rattle.std.specs.Prelude.{IsTrue, IfSome}
 use Rattle.std.proofs.lemmas.List.{length-set}
 use Rattle.volume_layout.specs.declared.layout.Layout.{Layout}
-use Rattle.volume_layout.specs.Layout.{home_a, home_b, turned}
+use Rattle.volume_layout.specs.Layout.{home_a, home_b, turned, IsBeside}
 use Rattle.fsd_formats.specs.declared.anchor.Anchor.{Anchor}
 use Rattle.sector_disk.specs.declared.sector.WeakRun.{WeakRun}
 use Rattle.sector_disk.specs.declared.sector.Sector.{Sector}
 use Rattle.sector_disk.specs.declared.sector.Sector.TheVariants.{Whole, Damaged}
 use Rattle.sector_disk.specs.Image.{sector_at, with_sector, IsWorn, AllWorn}
 use Rattle.fsd_log.specs.Images.{last_image}
-use Rattle.fsd_files.specs.Disk.{Image, Sectors, bytes_of, first_whole}
+use Rattle.fsd_files.specs.Disk.{Has, Image, Sectors, bytes_of, first_whole}
+use Rattle.fsd_sound.proofs.SoundLaws.{roots_still, still_other}
 use Rattle.fsd_sound.specs.Anchors.{anchor_at, EachAnchor}
 use Rattle.fsd_sound.specs.Homes.{home_of}
 use Rattle.fsd_sound.specs.Shown.{records_by}
 use Rattle.volume_layout.specs.Root.{root_bytes}
 use Rattle.volume_layout.proofs.TurnedLaws.{roots_differ}
-use Rattle.fsd_sound.specs.Sound.{IfWhole, IsRootOf, SaysTurned, HasRoots, IsEither, ShowsPages, weak_of}
+use Rattle.fsd_sound.specs.Laid.{HasOwnRoots}
+use Rattle.fsd_sound.specs.Sound.{AllLieIn, IfWhole, IsRootOf, Says, HasRoots, IsEither, ShowsPages, weak_of}
+use Rattle.fsd_sound.proofs.SaidLaws.{beside_other, planned_beside, same_root}
 use Rattle.fsd_sound.specs.Homes.{AreTwins}
 use Rattle.fsd_sound.specs.Logged.{IsLogged}
 use Rattle.fsd_sound.specs.Stands.{StandsShown}
 use Rattle.fsd_sound.specs.Windows.{IsNarrow}
 use Rattle.fsd_sound.proofs.CommuteLaws.{same_or, with_same, with_other, all_over, shows_all, both_same, all_shows}
+use Rattle.fsd_sound.proofs.SavedLaws.{open_written}
 use Rattle.fsd_sound.proofs.AlikeLaws.{records_same, each_same}
 use Rattle.fsd_sound.proofs.RehomeLaws.{Rehomes, rehomed_stands, rooted_stands}
-use Rattle.fsd_sound.proofs.SectorFacts.{same_bytes, not_damaged, whole_or_damaged}
+use Rattle.fsd_sound.proofs.SectorFacts.{has_bytes, same_bytes, not_damaged, whole_or_damaged}
 use Rattle.fsd_sound.proofs.TwinLaws.{home_twin}
 
 -- ---- a page that is logged, by each anchor
@@ -52,7 +56,8 @@ module _ (l : Layout) (weak : Sectors) (choices : List (List (List ℕ))) (page 
   pub logged_shows : (windows : List WeakRun) → weak ≡ weak_of windows → IsNarrow (weak_of windows) → (c : Image) → s < length c → IsLogged l (weak_of windows) page c → ShowsPages l windows choices c → ShowsPages l windows choices (with_sector c s bytes)
   logged_shows windows is narrow c room logged shows =
       all_shows l windows shows.readable.borne choices (with_sector c s bytes)
-      (both_same l windows c (with_sector c s bytes) shows.readable (λ p head. with_other c s p bytes (λ e. ⊎_elim (λ here. omega (arith, here, e, head)) (λ here. omega (arith, here, e, head)) at)))
+      (both_same l windows choices c (with_sector c s bytes) shows (omega (arith, length-set c s (Whole bytes))) (λ p head. with_other c s p bytes (λ e. ⊎_elim (λ here. omega (arith, here, e, head)) (λ here. omega (arith, here, e, head)) at))
+      (open_written c s bytes (λ e. ⊎_elim (λ here. omega (arith, here, e)) (λ here. omega (arith, here, e)) at) (λ e. ⊎_elim (λ here. omega (arith, here, e)) (λ here. omega (arith, here, e)) at)))
       (all_over (weak_of windows) (StandsShown l (weak_of windows) choices) c s bytes room (shows_all l windows narrow choices c shows)
       (λ i worn there stands. rehomed_stands l (weak_of windows) choices page i (with_sector i s bytes) (logged_rehomes i (omega (arith, room, worn.size)) (logged i worn)) stands))
 
@@ -187,13 +192,14 @@ module _ (l : Layout) (windows : List WeakRun) (narrow : IsNarrow (weak_of windo
   pub mended_shows : ShowsPages l windows choices (with_sector c s bytes)
   mended_shows =
       all_shows l windows shows.readable.borne choices (with_sector c s bytes)
-      (both_same l windows c (with_sector c s bytes) shows.readable (λ p head. with_other c s p bytes (λ e. elim at [ inl a ↦ omega (arith, a.0, e, head) | inr b ↦ omega (arith, b.0, e, head) ])))
+      (both_same l windows choices c (with_sector c s bytes) shows (omega (arith, length-set c s (Whole bytes))) (λ p head. with_other c s p bytes (λ e. elim at [ inl a ↦ omega (arith, a.0, e, head) | inr b ↦ omega (arith, b.0, e, head) ]))
+      (open_written c s bytes (λ e. elim at [ inl a ↦ omega (arith, a.0, e) | inr b ↦ omega (arith, b.0, e) ]) (λ e. elim at [ inl a ↦ omega (arith, a.0, e) | inr b ↦ omega (arith, b.0, e) ])))
       (all_over (weak_of windows) (StandsShown l (weak_of windows) choices) c s bytes room all
       (λ i worn there stands. rehomed_stands l (weak_of windows) choices page i (with_sector i s bytes) (mended_rehomes i worn there) stands))
 
 -- ---- a root
 
-module _ (l : Layout) (weak : Sectors) (i : Image) (s : ℕ) (at : (s ≡ 0) ⊎ (s ≡ 4)) (bytes : List ℕ) (is : IsRootOf l bytes) (room : s < length i) where
+module _ (l : Layout) (weak : Sectors) (i : Image) (s : ℕ) (at : (s ≡ 0) ⊎ (s ≡ 4)) (bytes : List ℕ) (o : Layout) (is : IsRootOf l o bytes) (room : s < length i) where
   root_is : sector_at (with_sector i s bytes) s ≡ Whole bytes
   root_is = with_same i s bytes room
 
@@ -203,11 +209,16 @@ module _ (l : Layout) (weak : Sectors) (i : Image) (s : ℕ) (at : (s ≡ 0) ⊎
       (λ here. subst P (sym (same_bytes (sector_at (with_sector i s bytes) s) bytes x root_is (ap (sector_at (with_sector i s bytes)) (sym here) ∙ there))) now)
       (λ other. before x (sym (with_other i s p bytes other) ∙ there)) (same_or p s)
 
-  rooted_roots : HasRoots l weak i → HasRoots l weak (with_sector i s bytes)
-  rooted_roots roots = record {
+  rooted_roots : (roots : HasRoots l weak i) → roots.other ≡ o → HasRoots l weak (with_sector i s bytes)
+  rooted_roots roots same_other =
+    let is : IsRootOf l roots.other bytes = subst (λ (x : Layout). IsRootOf l x bytes) (sym same_other) is in
+    record {
+    planned = roots.planned;
+    other = roots.other;
+    beside = roots.beside;
     some = ⊎_elim (λ first. inl (bytes, ap (sector_at (with_sector i s bytes)) (sym first) ∙ root_is, is)) (λ second. inr (bytes, ap (sector_at (with_sector i s bytes)) (sym second) ∙ root_is, is)) at;
-    first = root_alike (IsRootOf l) is 0 roots.first;
-    second = root_alike (IsRootOf l) is 4 roots.second;
+    first = root_alike (IsRootOf l roots.other) is 0 roots.first;
+    second = root_alike (IsRootOf l roots.other) is 4 roots.second;
     fits = omega (arith, roots.fits, length-set i s (Whole bytes));
     twins = λ p twin hurt. ⊎_elim
         (λ here. absurd (not_damaged (sector_at (with_sector i s bytes) s) bytes root_is (ap (sector_at (with_sector i s bytes)) (sym here) ∙ hurt)))
@@ -217,30 +228,67 @@ module _ (l : Layout) (weak : Sectors) (i : Image) (s : ℕ) (at : (s ≡ 0) ⊎
   behind_root : (p : ℕ) → 8 ≤ p → sector_at (with_sector i s bytes) p ≡ sector_at i p
   behind_root p from = with_other i s p bytes (λ e. elim at [ inl a ↦ omega (arith, a, e, from) | inr b ↦ omega (arith, b, e, from) ])
 
-  -- a root says the layout turned only where it did before, or the one that was written does
-  says_rooted : SaysTurned l (with_sector i s bytes) → SaysTurned l i ⊎ (bytes ≡ root_bytes (turned l))
-  says_rooted = ⊎_elim (at_place 0 (λ says. inl says)) (at_place 4 (λ says. inr says))
+  -- a root says a layout only where it did before, or the one that was written does
+  says_rooted : (k : Layout) → Says k (with_sector i s bytes) → Says k i ⊎ (bytes ≡ root_bytes k)
+  says_rooted k = ⊎_elim (at_place 0 (λ says. inl says)) (at_place 4 (λ says. inr says))
     where
-      at_place : (p : ℕ) → (sector_at i p ≡ Whole (root_bytes (turned l)) → SaysTurned l i) → sector_at (with_sector i s bytes) p ≡ Whole (root_bytes (turned l)) → SaysTurned l i ⊎ (bytes ≡ root_bytes (turned l))
+      at_place : (p : ℕ) → (sector_at i p ≡ Whole (root_bytes k) → Says k i) → sector_at (with_sector i s bytes) p ≡ Whole (root_bytes k) → Says k i ⊎ (bytes ≡ root_bytes k)
       at_place p says there = ⊎_elim
-          (λ here. inr (sym (same_bytes (sector_at (with_sector i s bytes) s) bytes (root_bytes (turned l)) root_is (ap (sector_at (with_sector i s bytes)) (sym here) ∙ there))))
+          (λ here. inr (sym (same_bytes (sector_at (with_sector i s bytes) s) bytes (root_bytes k) root_is (ap (sector_at (with_sector i s bytes)) (sym here) ∙ there))))
           (λ other. inl (says (sym (with_other i s p bytes other) ∙ there))) (same_or p s)
 
--- a root may be written with the bytes of the layout, or of it turned, where it may be mounted with that as well
-root_shows : (l : Layout) (windows : List WeakRun) → IsNarrow (weak_of windows) → (choices : List (List (List ℕ))) (s : ℕ) (bytes : List ℕ) (c : Image) → IsRootOf l bytes → (bytes ≡ root_bytes (turned l) → IsEither l windows c) → (s ≡ 0) ⊎ (s ≡ 4) → s < length c
-    → ShowsPages l windows choices c → ShowsPages l windows choices (with_sector c s bytes)
-root_shows l windows narrow choices s bytes c is turns at room shows =
-    let may : SaysTurned l (with_sector c s bytes) → IsEither l windows c = λ says. ⊎_elim shows.readable.either turns (says_rooted l (weak_of windows) c s at bytes is room says) in
-    all_shows l windows shows.readable.borne choices (with_sector c s bytes) (λ says. (may says).borne)
+-- a root may be written with the bytes of the layout, or of the one beside it that the roots may say, where the image may
+-- be mounted with that as well and what the lists tell lies in it
+root_shows : (l : Layout) (windows : List WeakRun) → IsNarrow (weak_of windows) → (choices : List (List (List ℕ))) (s : ℕ) (bytes : List ℕ) (c : Image) (shows : ShowsPages l windows choices c) → IsRootOf l shows.readable.roots.other bytes
+    → ((k : Layout) → IsBeside l k → bytes ≡ root_bytes k → IsEither l k windows c × AllLieIn k choices) → (s ≡ 0) ⊎ (s ≡ 4) → s < length c
+    → ShowsPages l windows choices (with_sector c s bytes)
+root_shows l windows narrow choices s bytes c shows is beside at room =
+    let o = shows.readable.roots.other in
+    let long : length (with_sector c s bytes) ≡ length c = length-set c s (Whole bytes) in
+    let may : (k : Layout) → IsBeside l k → Says k (with_sector c s bytes) → IsEither l k windows c × AllLieIn k choices = λ k at_k says. ⊎_elim (λ before. (shows.readable.either k at_k before, shows.within k at_k before)) (beside k at_k) (says_rooted l (weak_of windows) c s at bytes o is room k says) in
+    all_shows l windows shows.readable.borne choices (with_sector c s bytes) (λ k at_k says. let e = may k at_k says in (e.0.borne, omega (arith, e.0.fits, long), e.1, λ sized. open_written c s bytes (λ here. ⊎_elim (λ z. omega (arith, here, z)) (λ z. omega (arith, here, z)) at) (λ here. ⊎_elim (λ z. omega (arith, here, z)) (λ z. omega (arith, here, z)) at) (e.0.opened sized)))
     (all_over (weak_of windows) (StandsShown l (weak_of windows) choices) c s bytes room (shows_all l windows narrow choices c shows)
     (λ i worn there stands.
     let inside : s < length i = omega (arith, room, worn.size) in
-    rooted_stands l (weak_of windows) choices i (with_sector i s bytes) (behind_root l (weak_of windows) i s at bytes is inside) (rooted_roots l (weak_of windows) i s at bytes is inside stands.roots)
-    (λ says. ⊎_elim stands.empty (λ written. (turns written).empty i worn) (says_rooted l (weak_of windows) i s at bytes is inside says)) stands))
+    rooted_stands l (weak_of windows) choices i (with_sector i s bytes) (behind_root l (weak_of windows) i s at bytes o is inside) (rooted_roots l (weak_of windows) i s at bytes o is inside (roots_still l (weak_of windows) narrow c i worn shows.readable.roots) (still_other l (weak_of windows) narrow c i worn shows.readable.roots))
+    (λ says. ⊎_elim stands.empty (λ written. (beside (turned l) (inl refl) written).0.empty refl i worn) (says_rooted l (weak_of windows) i s at bytes o is inside (turned l) says)) stands))
 
 pub rooted_shows : (l : Layout) (windows : List WeakRun) → IsNarrow (weak_of windows) → (choices : List (List (List ℕ))) (s : ℕ) (c : Image) → (s ≡ 0) ⊎ (s ≡ 4) → s < length c → ShowsPages l windows choices c → ShowsPages l windows choices (with_sector c s (root_bytes l))
-rooted_shows l windows narrow choices s c = root_shows l windows narrow choices s (root_bytes l) c (inl refl) (λ same. absurd (roots_differ l same))
+rooted_shows l windows narrow choices s c at room shows =
+    let planned = shows.readable.roots.planned in
+    root_shows l windows narrow choices s (root_bytes l) c shows (inl refl)
+    (λ k beside same. absurd (beside_other l k beside (sym (same_root l k planned (planned_beside l k planned beside) same)))) at room
 
-pub turned_root_shows : (l : Layout) (windows : List WeakRun) → IsNarrow (weak_of windows) → (choices : List (List (List ℕ))) (s : ℕ) (c : Image) → IsEither l windows c → (s ≡ 0) ⊎ (s ≡ 4) → s < length c
-    → ShowsPages l windows choices c → ShowsPages l windows choices (with_sector c s (root_bytes (turned l)))
-turned_root_shows l windows narrow choices s c either = root_shows l windows narrow choices s (root_bytes (turned l)) c (inr refl) (λ same. either)
+-- with that of a layout beside it, where the other root is one of the two
+pub beside_root_shows : (l k : Layout) (windows : List WeakRun) → IsNarrow (weak_of windows) → (choices : List (List (List ℕ))) (s : ℕ) (c : Image) (shows : ShowsPages l windows choices c) → IsBeside l k → IsRootOf l shows.readable.roots.other (root_bytes k) → IsEither l k windows c → AllLieIn k choices
+    → (s ≡ 0) ⊎ (s ≡ 4) → s < length c → ShowsPages l windows choices (with_sector c s (root_bytes k))
+beside_root_shows l k windows narrow choices s c shows at_k is either lie at room =
+    let planned = shows.readable.roots.planned in
+    root_shows l windows narrow choices s (root_bytes k) c shows is
+    (λ x beside same. subst (λ (y : Layout). IsEither l y windows c × AllLieIn y choices) (same_root k x (planned_beside l k planned at_k) (planned_beside l x planned beside) same) (either, lie)) at room
+
+-- where both roots are the layout's own, the other one may be any beside it
+pub rebased : (l k : Layout) (windows : List WeakRun) (choices : List (List (List ℕ))) (i : Image) → HasOwnRoots l (weak_of windows) i → IsBeside l k → ShowsPages l windows choices i → ShowsPages l windows choices i
+rebased l k windows choices i own beside shows =
+    let roots = shows.readable.roots in
+    record shows {
+      readable = record shows.readable {
+        roots = record {
+          planned = roots.planned;
+          other = k;
+          beside = beside;
+          some = ⊎_elim (λ root. inl (root.0, root.1, own_bytes 0 own.0 root.0 root.1)) (λ root. inr (root.0, root.1, own_bytes 4 own.1 root.0 root.1)) roots.some;
+          first = own_bytes 0 own.0;
+          second = own_bytes 4 own.1;
+          fits = roots.fits;
+          twins = roots.twins;
+        };
+      };
+    }
+  where
+    own_bytes : (s : ℕ) → Has (weak_of windows) i (root_bytes l) s → (bytes : List ℕ) → sector_at i s ≡ Whole bytes → IsRootOf l k bytes
+    own_bytes s has bytes is = inl (sym (has_bytes (weak_of windows) i (root_bytes l) bytes s has is))
+
+pub rebased_other : (l k : Layout) (windows : List WeakRun) (choices : List (List (List ℕ))) (i : Image) (own : HasOwnRoots l (weak_of windows) i) (beside : IsBeside l k) (shows : ShowsPages l windows choices i) → (rebased l k windows choices i own beside shows).readable.roots.other ≡ k
+unfolding rebased
+rebased_other l k windows choices i own beside shows = refl

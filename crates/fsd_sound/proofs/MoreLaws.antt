@@ -29,10 +29,10 @@ tells_fewer l hurt i h f g None le tells = absurd tells
 tells_fewer l hurt i h f g (Some t) le tells = let forced = tells.1.forced in (tells.0, record { forced = omega (arith, le, forced); made = tells.1.made }, tells.2)
 
 pub sound_more : (l : Layout) (windows : List WeakRun) (h c : List Change) (f : ℕ) (i : Image) → IsSound l windows h f i → IsSound l windows (h ++ c) f i
-sound_more l windows h c f i sound = record { readable = sound.readable; tells = λ j worn. tells_more l (in_runs windows) j h c f (told l j) (sound.tells j worn); saved = sound.saved }
+sound_more l windows h c f i sound = record { readable = sound.readable; tells = λ j worn. tells_more l (in_runs windows) j h c f (told l j) (sound.tells j worn); within = sound.within; saved = sound.saved }
 
 pub sound_fewer : (l : Layout) (windows : List WeakRun) (h : List Change) (f g : ℕ) (i : Image) → f ≤ g → IsSound l windows h g i → IsSound l windows h f i
-sound_fewer l windows h f g i le sound = record { readable = sound.readable; tells = λ j worn. tells_fewer l (in_runs windows) j h f g (told l j) le (sound.tells j worn); saved = sound.saved }
+sound_fewer l windows h f g i le sound = record { readable = sound.readable; tells = λ j worn. tells_fewer l (in_runs windows) j h f g (told l j) le (sound.tells j worn); within = sound.within; saved = sound.saved }
 
 -- ---- wear
 

@@ -13,7 +13,7 @@ use Rattle.run_table.specs.Space.{contains, all_differ}
 use Rattle.fsd_formats.specs.declared.anchor.Anchor.{Anchor}
 use Rattle.fsd_formats.specs.declared.entry.Entry.{Entry}
 use Rattle.sector_disk.specs.declared.sector.WeakRun.{WeakRun}
-use Rattle.sector_disk.specs.Image.{AllWorn}
+use Rattle.sector_disk.specs.Image.{AllWorn, sector_at}
 use Rattle.fsd_log.specs.Scan.{Placed, Head, IsLog, tape}
 use Rattle.fsd_files.specs.Disk.{Image, Sectors, in_runs, bytes_at, bytes_of}
 use Rattle.fsd_files.specs.Files.{Files, Change, after}
@@ -90,10 +90,10 @@ front_stays v spaced s lt =
     alone false b c h = refl
     alone true b c h = absurd (cc h)
 
--- what is written to sectors that were let go leaves the volume mounted, where what is open stands
-pub may_be_written : (m : Mounted) (slices : List (List (Option (List ℕ)))) (windows : List WeakRun) (h : List Change) (f : ℕ) (i j : Image) → length j ≡ length i → SameStays m.volume i j
+-- what is written to sectors that were let go, or behind the last one, leaves the volume mounted, where what is open stands
+may_be_longer : (m : Mounted) (slices : List (List (Option (List ℕ)))) (windows : List WeakRun) (h : List Change) (f : ℕ) (i j : Image) → length i ≤ length j → SameStays m.volume i j
     → HasOpen (in_runs windows) j (record m { slices = slices }) → IsMounted m windows h f i → IsMounted (record m { slices = slices }) windows h f j
-may_be_written m slices windows h f i j size same stands is =
+may_be_longer m slices windows h f i j size same stands is =
     let front : SameFront m.volume.layout i j = λ s lt. same s (front_stays m.volume is.spaced s (omega (arith, lt))) in
     record {
       files = is.files;
@@ -125,6 +125,15 @@ may_be_written m slices windows h f i j size same stands is =
     described_on : (files : Files) (entries : List Entry) → ((s : ℕ) → IsTrue (is_in (plans_of entries) s) → IsFalse (is_let_go m.volume s)) → Describes m.volume.layout (in_runs windows) i files entries
         → Describes m.volume.layout (in_runs windows) j files entries
     described_on files entries stays d = record { lists = d.lists; apart = d.apart; kept = kept_on (in_runs windows) i j files entries (λ s at. same s (stays s at)) d.kept }
+
+pub may_be_written : (m : Mounted) (slices : List (List (Option (List ℕ)))) (windows : List WeakRun) (h : List Change) (f : ℕ) (i j : Image) → length j ≡ length i → SameStays m.volume i j
+    → HasOpen (in_runs windows) j (record m { slices = slices }) → IsMounted m windows h f i → IsMounted (record m { slices = slices }) windows h f j
+may_be_written m slices windows h f i j size same stands is = may_be_longer m slices windows h f i j (omega (arith, size)) same stands is
+
+-- an image with more sectors, and the same ones in front
+pub longer_mounted : (m : Mounted) (windows : List WeakRun) (h : List Change) (f : ℕ) (i j : Image) → length i ≤ length j → ((s : ℕ) → sector_at j s ≡ sector_at i s) → IsMounted m windows h f i → IsMounted m windows h f j
+longer_mounted m windows h f i j size same is =
+    may_be_longer m m.slices windows h f i j size (λ s stays. same s) (open_on (in_runs windows) i j m (λ s at. same s) is.open_ones) is
 
 -- what is written to free sectors leaves the volume mounted
 pub still_mounted : (m : Mounted) (windows : List WeakRun) (h : List Change) (f : ℕ) (i j : Image) → length j ≡ length i → SameTaken m.volume i j → IsMounted m windows h f i → IsMounted m windows h f j
@@ -185,9 +194,8 @@ one_of P a x p c = by_place c.0 c.1 c.2
 pub mounted_sound : (m : Mounted) (windows : List WeakRun) (h : List Change) (f : ℕ) (i : Image) → IsMounted m windows h f i → IsSound m.volume.layout windows h f i
 mounted_sound m windows h f i is =
     let l = m.volume.layout in
-    sound_from_pages l windows h f (is.disk ∷ []) i is.over.shows
-    (λ pages one. one_of (λ pages. Tells l (in_runs windows) i h f (told_in pages)) is.disk pages (tells_forced m.volume windows h f i is.disk (some_forced m windows h f i is) is.forced) one)
-    (λ pages one. open_saves l i pages is.over.own.opened)
+    let tells = λ (pages : List (List ℕ)) (one : Contains (is.disk ∷ []) pages). one_of (λ pages. Tells l (in_runs windows) i h f (told_in pages)) is.disk pages (tells_forced m.volume windows h f i is.disk (some_forced m windows h f i is) is.forced) one in
+    sound_from_pages l windows h f (is.disk ∷ []) i is.over.shows tells (λ pages one. open_saves l i pages is.over.own.opened)
 
 -- ---- a force
 
@@ -223,11 +231,10 @@ force_sound m windows h f i j now is same opened told shows =
       taken = is.forced.taken;
       leaders = is.forced.leaders;
     } in
-    sound_from_pages l windows h f (is.disk ∷ now ∷ []) j shows
-    (λ pages two. first_or_second (λ pages. Tells l (in_runs windows) j h f (told_in pages)) is.disk now pages
-    (tells_forced m.volume windows h f j is.disk le forced)
-    (tells_all m.volume windows h f j now le is.files told (describes_data l (in_runs windows) m.volume.files m.volume.entries i j same is.described)) two)
-    (λ pages two. open_saves l j pages opened)
+    let tells = λ (pages : List (List ℕ)) (two : Contains (is.disk ∷ now ∷ []) pages). first_or_second (λ pages. Tells l (in_runs windows) j h f (told_in pages)) is.disk now pages
+        (tells_forced m.volume windows h f j is.disk le forced)
+        (tells_all m.volume windows h f j now le is.files told (describes_data l (in_runs windows) m.volume.files m.volume.entries i j same is.described)) two in
+    sound_from_pages l windows h f (is.disk ∷ now ∷ []) j shows tells (λ pages two. open_saves l j pages opened)
 
 -- and so it is while it shows what was forced alone
 pub forced_sound : (m : Mounted) (windows : List WeakRun) (h : List Change) (f : ℕ) (i j : Image) → (is : IsMounted m windows h f i) → SameData m.volume.layout (in_runs windows) i j → IsOpen j → ShowsPages m.volume.layout windows (is.disk ∷ []) j
@@ -241,9 +248,8 @@ forced_sound m windows h f i j is same opened shows =
       taken = is.forced.taken;
       leaders = is.forced.leaders;
     } in
-    sound_from_pages l windows h f (is.disk ∷ []) j shows
-    (λ pages one. one_of (λ ps. Tells l (in_runs windows) j h f (told_in ps)) is.disk pages (tells_forced m.volume windows h f j is.disk (some_forced m windows h f i is) forced) one)
-    (λ pages one. open_saves l j pages opened)
+    let tells = λ (pages : List (List ℕ)) (one : Contains (is.disk ∷ []) pages). one_of (λ ps. Tells l (in_runs windows) j h f (told_in ps)) is.disk pages (tells_forced m.volume windows h f j is.disk (some_forced m windows h f i is) forced) one in
+    sound_from_pages l windows h f (is.disk ∷ []) j shows tells (λ pages one. open_saves l j pages opened)
 
 pub force_mounted : (m : Mounted) (windows : List WeakRun) (h : List Change) (f : ℕ) (i j : Image) (now : List (List ℕ)) (anchor : Anchor) (head : Head) (records : List Placed) → IsMounted m windows h f i → SameData m.volume.layout (in_runs windows) i j
     → told_in now ≡ Some (telling_of m.volume) → IsSameEpoch m.anchor anchor → StandsOver m.volume.layout anchor head records now now [] windows j
@@ -424,5 +430,5 @@ mounted_reach m windows h f i is =
 -- ---- the records that the log has then
 
 pub still_records : (m : Mounted) (windows : List WeakRun) (h : List Change) (f : ℕ) (i j : Image) (size : length j ≡ length i) (same : SameTaken m.volume i j) (is : IsMounted m windows h f i) → (still_mounted m windows h f i j size same is).records ≡ is.records
-unfolding still_mounted may_be_written
+unfolding still_mounted may_be_written may_be_longer
 still_records m windows h f i j size same is = refl

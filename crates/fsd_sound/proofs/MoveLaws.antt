@@ -7,7 +7,7 @@ use Rattle.std.specs.Option.{option_or}
 use Rattle.std.proofs.lemmas.Bool.{le-leb, and_from}
 use Rattle.std.proofs.lemmas.Bool.Decides.{nat_tests}
 use Rattle.volume_layout.specs.declared.layout.Layout.{Layout}
-use Rattle.volume_layout.specs.Layout.{home_a, home_b}
+use Rattle.volume_layout.specs.Layout.{home_a, home_b, turned}
 use Rattle.fsd_formats.specs.declared.anchor.Anchor.{Anchor}
 use Rattle.fsd_formats.specs.Anchors.{anchor_bytes, read_anchor, is_anchor}
 use Rattle.fsd_formats.proofs.SpellingLaws.{anchor_is_read}
@@ -240,7 +240,10 @@ module _ (l : Layout) (old new : Anchor) (rs rest : List Placed) (pages : List (
 
   roots_now : HasRoots l weak j
   roots_now = record {
-    some = some_same l i j (front 0 (omega arith)) (front 4 (omega arith)) stands.roots.some;
+    planned = stands.roots.planned;
+    other = stands.roots.other;
+    beside = stands.roots.beside;
+    some = some_same l i j stands.roots.other (front 0 (omega arith)) (front 4 (omega arith)) stands.roots.some;
     first = λ b is. stands.roots.first b (sym (front 0 (omega arith)) ∙ is);
     second = λ b is. stands.roots.second b (sym (front 4 (omega arith)) ∙ is);
     fits = omega (arith, stands.roots.fits, size);
@@ -250,7 +253,7 @@ module _ (l : Layout) (old new : Anchor) (rs rest : List Placed) (pages : List (
   pub moved_stands : StandsShown l weak (pages ∷ []) j
   moved_stands = record {
     roots = roots_now;
-    empty = λ says. absurd (own_roots_say l weak i may.roots (says_same l i j front says));
+    empty = λ says. absurd (own_roots_say l weak i may.roots (says_same (turned l) i j front says));
     anchors = anchors_now;
     log = record {
       agree = subst (ScansAgree l j (anchor_at j 8) (anchor_at j 12)) (sym taken_now) (agree (anchor_at j 8) (anchor_at j 12) each_either.0 each_either.1);

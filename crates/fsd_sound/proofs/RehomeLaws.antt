@@ -3,7 +3,7 @@ use Rattle.std.proofs.Common.{◌≡◌, ◌≢◌, ⊎_elim, ℕ, ◌+◌, ◌*
 use Rattle.std.specs.Prelude.{IfSome, option_and_then}
 use Rattle.std.specs.Option.{option_or}
 use Rattle.volume_layout.specs.declared.layout.Layout.{Layout}
-use Rattle.volume_layout.specs.Layout.{home_a, home_b}
+use Rattle.volume_layout.specs.Layout.{home_a, home_b, turned}
 use Rattle.fsd_formats.specs.declared.anchor.Anchor.{Anchor}
 use Rattle.sector_disk.specs.declared.sector.Sector.TheVariants.{Whole, Damaged}
 use Rattle.sector_disk.specs.Image.{sector_at}
@@ -72,8 +72,8 @@ module _ (l : Layout) (weak : Sectors) (choices : List (List (List ℕ))) (page 
 
   pub rehomed_stands : StandsShown l weak choices i → StandsShown l weak choices j
   rehomed_stands stands = record {
-    roots = roots_same l i j in_front weak re.size (λ s twin hurt. re.unhurt s hurt) (λ s lt. re.others s (λ e. omega arith) (λ e. omega arith)) stands.roots;
-    empty = λ says. unlogged_same l i j in_front (stands.empty (says_same l i j (λ s lt. re.others s (λ e. omega arith) (λ e. omega arith)) says));
+    roots = roots_same l i j in_front weak (omega (arith, re.size)) (λ s twin hurt. re.unhurt s hurt) (λ s lt. re.others s (λ e. omega arith) (λ e. omega arith)) stands.roots;
+    empty = λ says. unlogged_same l i j in_front (stands.empty (says_same (turned l) i j (λ s lt. re.others s (λ e. omega arith) (λ e. omega arith)) says));
     anchors = anchors_same l i j in_front stands.anchors;
     log = has_log_same l i j in_front weak stands.log;
     homes = homes_kept stands.homes;

@@ -5,7 +5,7 @@ use Rattle.std.specs.Prelude.{IfSome, IsSome, is_some, option_and_then, Contains
 use Rattle.std.proofs.lemmas.List.{length-set}
 use Rattle.std.proofs.lemmas.Bool.Decides.{nat_tests}
 use Rattle.volume_layout.specs.declared.layout.Layout.{Layout}
-use Rattle.volume_layout.specs.Layout.{home_a, home_b}
+use Rattle.volume_layout.specs.Layout.{home_a, home_b, turned}
 use Rattle.fsd_formats.specs.declared.anchor.Anchor.{Anchor}
 use Rattle.fsd_formats.specs.Anchors.{anchor_bytes, read_anchor}
 use Rattle.sector_disk.specs.declared.sector.WeakRun.{WeakRun}
@@ -26,6 +26,7 @@ use Rattle.fsd_sound.specs.Begun.{IsHomed, AreOlder}
 use Rattle.fsd_sound.specs.Stands.{StandsShown}
 use Rattle.fsd_sound.specs.Windows.{IsNarrow}
 use Rattle.fsd_sound.proofs.CommuteLaws.{same_or, with_same, with_other, all_over, shows_all, both_same, all_shows}
+use Rattle.fsd_sound.proofs.SavedLaws.{open_anchored}
 use Rattle.fsd_sound.proofs.HomedLaws.{stamps_up, no_records, homes_alike, pages_are}
 use Rattle.fsd_sound.proofs.SaidLaws.{own_roots_say, says_same, says_worn, some_same}
 use Rattle.fsd_sound.proofs.SectorFacts.{not_damaged}
@@ -195,7 +196,10 @@ module _ (l : Layout) (epoch : ℕ) (pages : List (List ℕ)) (c : Image) (homed
   pub renewed_stands : StandsShown l weak choices (with_sector i s (anchor_bytes (fresh_anchor epoch)))
   renewed_stands = record {
     roots = record {
-      some = some_same l i j (head 0 (omega arith)) (head 4 (omega arith)) stands.roots.some;
+      planned = stands.roots.planned;
+      other = stands.roots.other;
+      beside = stands.roots.beside;
+      some = some_same l i j stands.roots.other (head 0 (omega arith)) (head 4 (omega arith)) stands.roots.some;
       first = λ b is. stands.roots.first b (sym (head 0 (omega arith)) ∙ is);
       second = λ b is. stands.roots.second b (sym (head 4 (omega arith)) ∙ is);
       fits = omega (arith, stands.roots.fits, length-set i s (Whole (anchor_bytes (fresh_anchor epoch))));
@@ -203,7 +207,7 @@ module _ (l : Layout) (epoch : ℕ) (pages : List (List ℕ)) (c : Image) (homed
           (λ here. absurd (not_damaged (sector_at j s) (anchor_bytes (fresh_anchor epoch)) j_s (ap (sector_at j) (sym here) ∙ hurt)))
           (λ other. stands.roots.twins p twin (sym (j_other p other) ∙ hurt)) (same_or p s);
     };
-    empty = λ says. absurd (own_roots_say l weak c (inl homed.root, inl homed.root_copy) (says_worn l c i weak worn (says_same l i j head says)));
+    empty = λ says. absurd (own_roots_say l weak c (inl homed.root, inl homed.root_copy) (says_worn (turned l) c i weak worn (says_same (turned l) i j head says)));
     anchors = anchors_now;
     log = record { agree = agree_now; laid = laid_now };
     homes = homes_now;
@@ -223,6 +227,7 @@ pub renewed_shows : (l : Layout) (windows : List WeakRun) → IsNarrow (weak_of 
     → IsHomed l epoch pages c → AreOlder epoch c → Contains choices pages → ShowsPages l windows choices c → ShowsPages l windows choices (with_sector c s (anchor_bytes (fresh_anchor epoch)))
 renewed_shows l windows narrow choices epoch pages s t c at room homed older chosen shows =
     all_shows l windows shows.readable.borne choices (with_sector c s (anchor_bytes (fresh_anchor epoch)))
-    (both_same l windows c (with_sector c s (anchor_bytes (fresh_anchor epoch))) shows.readable (λ p head. with_other c s p (anchor_bytes (fresh_anchor epoch)) (λ e. elim at [ inl o ↦ omega (arith, e, o.0, head) | inr o ↦ omega (arith, e, o.0, head) ])))
+    (both_same l windows choices c (with_sector c s (anchor_bytes (fresh_anchor epoch))) shows (omega (arith, length-set c s (Whole (anchor_bytes (fresh_anchor epoch))))) (λ p head. with_other c s p (anchor_bytes (fresh_anchor epoch)) (λ e. elim at [ inl o ↦ omega (arith, e, o.0, head) | inr o ↦ omega (arith, e, o.0, head) ]))
+    (open_anchored c s t (anchor_bytes (fresh_anchor epoch)) at room refl))
     (all_over (weak_of windows) (StandsShown l (weak_of windows) choices) c s (anchor_bytes (fresh_anchor epoch)) room (shows_all l windows narrow choices c shows)
     (λ i worn there stands. renewed_stands l epoch pages c homed (weak_of windows) narrow choices chosen s t at i (omega (arith, room, worn.size)) worn (older_worn l (weak_of windows) epoch c i worn older) stands))

@@ -1,15 +1,16 @@
 -- What keeps a saved map true.
-use Rattle.std.proofs.Common.{◌≡◌, ◌⊎◌, inl, inr, ⊎_elim, ℕ, zero, suc, ◌+◌, ◌<◌, ◌≤◌, Bool, List, [], ◌∷◌, Option, Some, None, refl, sym, ap, subst, ◌∙◌, arith}
+use Rattle.std.proofs.Common.{◌≡◌, ◌⊎◌, inl, inr, ⊎_elim, ℕ, zero, suc, ◌+◌, ◌<◌, ◌≤◌, Bool, List, [], ◌∷◌, length, Option, Some, None, refl, sym, ap, subst, ◌∙◌, arith}
 use Rattle.std.specs.Prelude.{IfSome, option_and_then, option_map}
 use Rattle.std.specs.List.{range_with_len}
 use Rattle.std.proofs.lemmas.Bool.{cond-true}
+use Rattle.std.proofs.lemmas.List.{get_or-set_same, get_or-set_other}
 use Rattle.volume_layout.specs.declared.layout.Layout.{Layout}
 use Rattle.volume_layout.specs.Layout.{map_sectors, map_start, turned}
 use Rattle.fsd_formats.specs.declared.anchor.Anchor.{Anchor}
 use Rattle.fsd_formats.specs.Anchors.{anchor_bytes, closed_bytes, is_closed, read_anchor, read_closed}
 use Rattle.sector_disk.specs.declared.sector.Sector.{Sector}
-use Rattle.sector_disk.specs.declared.sector.Sector.TheVariants.{Whole}
-use Rattle.sector_disk.specs.Image.{sector_at, IsWorn}
+use Rattle.sector_disk.specs.declared.sector.Sector.TheVariants.{Whole, Damaged}
+use Rattle.sector_disk.specs.Image.{sector_at, with_sector, IsWorn}
 use Rattle.fsd_files.specs.Disk.{Image, Sectors, SectorWorn, bytes_at, bytes_of}
 use Rattle.fsd_sound.specs.Shown.{each_of}
 use Rattle.fsd_sound.specs.Saved.{ClosesNone, EachClosed, IsOpen, SavesPages, closed_at, map_of}
@@ -81,6 +82,27 @@ closed_says bytes a closed reads = cond-true (is_closed bytes) (read_anchor byte
 -- an anchor of a volume that is not closed says nothing
 pub plain_is_open : (i : Image) (s : ℕ) (a : Anchor) → sector_at i s ≡ Whole (anchor_bytes a) → closed_at i s ≡ None
 plain_is_open i s a is = ap (λ (x : Sector). option_and_then read_closed (bytes_of x)) is
+
+-- what is written elsewhere closes nothing
+pub open_written : (i : Image) (s : ℕ) (bytes : List ℕ) → (8 ≡ s → ⊥) → (12 ≡ s → ⊥) → IsOpen i → IsOpen (with_sector i s bytes)
+open_written i s bytes first second is = (
+  ap (λ (x : Sector). option_and_then read_closed (bytes_of x)) (get_or-set_other i s 8 (Whole bytes) Damaged first) ∙ is.0,
+  ap (λ (x : Sector). option_and_then read_closed (bytes_of x)) (get_or-set_other i s 12 (Whole bytes) Damaged second) ∙ is.1,
+)
+
+-- one copy of the anchor is written, and does not close
+pub open_anchored : (i : Image) (s t : ℕ) (bytes : List ℕ) → ((s ≡ 8) × (t ≡ 12)) ⊎ ((s ≡ 12) × (t ≡ 8)) → s < length i → read_closed bytes ≡ None → IsOpen i → IsOpen (with_sector i s bytes)
+open_anchored i s t bytes at room none is = by at
+  where
+    here : closed_at (with_sector i s bytes) s ≡ None
+    here = ap (λ (x : Sector). option_and_then read_closed (bytes_of x)) (get_or-set_same i s (Whole bytes) Damaged room) ∙ none
+
+    other : (p : ℕ) → (p ≡ s → ⊥) → closed_at (with_sector i s bytes) p ≡ closed_at i p
+    other p differs = ap (λ (x : Sector). option_and_then read_closed (bytes_of x)) (get_or-set_other i s p (Whole bytes) Damaged differs)
+
+    by : ((s ≡ 8) × (t ≡ 12)) ⊎ ((s ≡ 12) × (t ≡ 8)) → IsOpen (with_sector i s bytes)
+    by (inl o) = (ap (closed_at (with_sector i s bytes)) (sym o.0) ∙ here, other 12 (λ e. omega (arith, e, o.0)) ∙ is.1)
+    by (inr o) = (other 8 (λ e. omega (arith, e, o.0)) ∙ is.0, ap (closed_at (with_sector i s bytes)) (sym o.0) ∙ here)
 
 -- a volume that is not closed has saved nothing
 pub open_saves : (l : Layout) (i : Image) (pages : List (List ℕ)) → IsOpen i → SavesPages l i pages

@@ -16,12 +16,12 @@ use Rattle.fsd_sound.specs.Anchors.{EachAnchor}
 use Rattle.fsd_table.specs.Table.{Telling, told_in}
 use Rattle.fsd_sound.specs.Saved.{SavesPages}
 use Rattle.fsd_sound.specs.Shown.{shown}
-use Rattle.fsd_sound.specs.Sound.{IfWhole, HasRoots, HasAnchors, IsRootAt, IsRootOf, Tells, weak_of, IsReadable, IsSound, ShowsOne, ShowsPages, is_twin}
+use Rattle.fsd_sound.specs.Sound.{IfWhole, HasRoots, HasAnchors, IsRootAt, IsRootOf, Tells, weak_of, IsReadable, IsSound, ShowsOne, ShowsPages, is_twin, AllLieIn, LiesIn}
 use Rattle.fsd_sound.specs.Windows.{IsNarrow}
 use Rattle.sector_disk.proofs.Wear.{worn_trans, worn_whole}
 use Rattle.fsd_files.proofs.WearLaws.{kept_still}
 use Rattle.fsd_sound.proofs.SaidLaws.{says_worn}
-use Rattle.fsd_sound.proofs.SavedLaws.{saves_worn}
+use Rattle.fsd_sound.proofs.SavedLaws.{saves_worn, stays_open, worn_closes}
 use Rattle.fsd_sound.proofs.SectorFacts.{whole_or_damaged}
 
 -- ---- roots
@@ -33,8 +33,8 @@ still_or_weak b x y bytes (inr d) w = inr d.0
 
 module _ (l : Layout) (weak : Sectors) (narrow : IsNarrow weak) (i j : Image) (w : IsWorn weak i j) where
   -- the other root serves where this one is weak
-  other_root : (s : ℕ) → (IsTrue (weak s) → ⊥) → IsTrue (is_twin l s) → IfWhole i s (IsRootOf l) → (IsTrue (is_twin l s) → sector_at i s ≡ Damaged → IsTrue (weak s)) → IsRootAt l j s
-  other_root s strong twin each damaged =
+  other_root : (s : ℕ) → (IsTrue (weak s) → ⊥) → IsTrue (is_twin l s) → (o : Layout) → IfWhole i s (IsRootOf l o) → (IsTrue (is_twin l s) → sector_at i s ≡ Damaged → IsTrue (weak s)) → IsRootAt l o j s
+  other_root s strong twin o each damaged =
       elim (whole_or_damaged (sector_at i s)) [
         | inl x ↦ elim (still_or_weak (weak s) (sector_at i s) (sector_at j s) x.0 (w.each s) x.1) [
           | inl e ↦ (x.0, e, each x.0 x.1)
@@ -43,30 +43,38 @@ module _ (l : Layout) (weak : Sectors) (narrow : IsNarrow weak) (i j : Image) (w
         | inr d ↦ absurd (strong (damaged twin d))
       ]
 
-  some_root : HasRoots l weak i → IsRootAt l i 0 ⊎ IsRootAt l i 4 → IsRootAt l j 0 ⊎ IsRootAt l j 4
+  some_root : (h : HasRoots l weak i) → IsRootAt l h.other i 0 ⊎ IsRootAt l h.other i 4 → IsRootAt l h.other j 0 ⊎ IsRootAt l h.other j 4
   some_root h (inl e) =
       elim (still_or_weak (weak 0) (sector_at i 0) (sector_at j 0) e.0 (w.each 0) e.1) [
         | inl f ↦ inl (e.0, f, e.2)
-        | inr d ↦ inr (other_root 4 (λ d4. narrow 0 4 (omega arith) d d4) refl h.second (h.twins 4))
+        | inr d ↦ inr (other_root 4 (λ d4. narrow 0 4 (omega arith) d d4) refl h.other h.second (h.twins 4))
       ]
   some_root h (inr e) =
       elim (still_or_weak (weak 4) (sector_at i 4) (sector_at j 4) e.0 (w.each 4) e.1) [
         | inl f ↦ inr (e.0, f, e.2)
-        | inr d ↦ inl (other_root 0 (λ d0. narrow 0 4 (omega arith) d0 d) refl h.first (h.twins 0))
+        | inr d ↦ inl (other_root 0 (λ d0. narrow 0 4 (omega arith) d0 d) refl h.other h.first (h.twins 0))
       ]
 
   damaged_before_or_weak : (s : ℕ) (twins : sector_at i s ≡ Damaged → IsTrue (weak s)) → SectorWorn (weak s) (sector_at i s) (sector_at j s) → sector_at j s ≡ Damaged → IsTrue (weak s)
   damaged_before_or_weak s twins (inl e) d = twins (sym e ∙ d)
   damaged_before_or_weak s twins (inr c) d = c.0
 
-  roots_still : HasRoots l weak i → HasRoots l weak j
+  pub roots_still : HasRoots l weak i → HasRoots l weak j
   roots_still h = record {
+    planned = h.planned;
+    other = h.other;
+    beside = h.beside;
     some = some_root h h.some;
     first = λ bytes e. h.first bytes (worn_whole weak i j 0 bytes w e);
     second = λ bytes e. h.second bytes (worn_whole weak i j 4 bytes w e);
     fits = subst (λ n. l.sectors ≤ n) (sym w.size) h.fits;
     twins = λ s twin d. damaged_before_or_weak s (h.twins s twin) (w.each s) d;
   }
+
+  -- and the other layout is the same
+  pub still_other : (h : HasRoots l weak i) → (roots_still h).other ≡ h.other
+  unfolding roots_still
+  still_other h = refl
 
 -- ---- anchors
 
@@ -97,7 +105,9 @@ readable_still : (l : Layout) (windows : List WeakRun) → IsNarrow (weak_of win
 readable_still l windows narrow i j w h = record {
   borne = h.borne;
   roots = roots_still l (weak_of windows) narrow i j w h.roots;
-  either = λ says. let was = h.either (says_worn l i j (weak_of windows) w says) in record { borne = was.borne; empty = λ k v. was.empty k (worn_trans (weak_of windows) i j k w v) };
+  either = λ o beside says.
+      let was = h.either o beside (says_worn o i j (weak_of windows) w says) in
+      record { borne = was.borne; fits = omega (arith, was.fits, w.size); empty = λ is k v. was.empty is k (worn_trans (weak_of windows) i j k w v); opened = λ sized. stays_open i j (worn_closes (weak_of windows) i j w) (was.opened sized) };
   anchors = anchors_still l (weak_of windows) i j w h.anchors;
   log = λ k v. h.log k (worn_trans (weak_of windows) i j k w v);
   homes = λ k v. h.homes k (worn_trans (weak_of windows) i j k w v);
@@ -108,6 +118,7 @@ pub sound_still : (l : Layout) (windows : List WeakRun) → IsNarrow (weak_of wi
 sound_still l windows narrow h f i j w s = record {
   readable = readable_still l windows narrow i j w s.readable;
   tells = λ k v. s.tells k (worn_trans (weak_of windows) i j k w v);
+  within = λ o beside says k v. s.within o beside (says_worn o i j (weak_of windows) w says) k (worn_trans (weak_of windows) i j k w v);
   saved = λ k v pages is. saves_worn l (weak_of windows) i j pages w (s.saved k (worn_trans (weak_of windows) i j k w v) pages is);
 }
 
@@ -115,6 +126,7 @@ pub shows_still : (l : Layout) (windows : List WeakRun) → IsNarrow (weak_of wi
     → IsWorn (weak_of windows) i j → ShowsPages l windows choices i → ShowsPages l windows choices j
 shows_still l windows narrow choices i j w s = record {
   readable = readable_still l windows narrow i j w s.readable;
+  within = λ o beside says. s.within o beside (says_worn o i j (weak_of windows) w says);
   shows = λ k v. s.shows k (worn_trans (weak_of windows) i j k w v);
 }
 
@@ -163,6 +175,10 @@ shown_tells l hurt j h f choices (Some pages) shows each = each pages shows
 shown_chosen : (choices : List (List (List ℕ))) (o : Option (List (List ℕ))) (pages : List (List ℕ)) → ShowsOne choices o → o ≡ Some pages → Contains choices pages
 shown_chosen choices o pages shows is = subst (ShowsOne choices) is shows
 
+shown_within : (k : Layout) (choices : List (List (List ℕ))) (o : Option (List (List ℕ))) → AllLieIn k choices → ShowsOne choices o → LiesIn k (option_and_then told_in o)
+shown_within k choices None each shows = tt
+shown_within k choices (Some pages) each shows = each pages shows
+
 pub sound_from_pages : (l : Layout) (windows : List WeakRun) (h : List Change) (f : ℕ) (choices : List (List (List ℕ))) (i : Image)
     → ShowsPages l windows choices i → ((pages : List (List ℕ)) → Contains choices pages → PagesTell l (in_runs windows) i h f pages)
     → ((pages : List (List ℕ)) → Contains choices pages → SavesPages l i pages) → IsSound l windows h f i
@@ -170,5 +186,6 @@ sound_from_pages l windows h f choices i shows each saves = record {
   readable = shows.readable;
   tells = λ j w. shown_tells l (in_runs windows) j h f choices (shown l j) (shows.shows j w)
       (λ pages c. tells_still l (weak_of windows) (in_runs windows) i j h f (told_in pages) (weak_within_hurt windows) w (each pages c));
+  within = λ k beside says j w. shown_within k choices (shown l j) (shows.within k beside says) (shows.shows j w);
   saved = λ j w pages is. saves pages (shown_chosen choices (shown l j) pages (shows.shows j w) is);
 }

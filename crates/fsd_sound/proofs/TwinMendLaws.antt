@@ -142,7 +142,7 @@ module _ (m : Mounted) (windows : List WeakRun) (narrow : IsNarrow (weak_of wind
       anchored at (inl (y, here)) =
           front_shows m.volume.layout windows (is.disk ∷ []) i (with_sector i s bytes) is.room
           (λ p lt. ⊎_elim (λ same. ap (sector_at (with_sector i s bytes)) same ∙ with_same i s bytes room_s ∙ ap (λ (b : List ℕ). Whole b) (sym (alike at y here)) ∙ sym here ∙ ap (sector_at i) (sym same)) (λ differs. other p differs) (same_or p s))
-          (length-set i s (Whole bytes)) shows
+          (omega (arith, length-set i s (Whole bytes))) shows
       anchored at (inr hurt) = anchor_shows m.volume.layout windows narrow (is.disk ∷ []) s t at i bytes room_s whole hurt (shows.readable.roots.twins s (anchor_is_twin at) hurt) shows
 
       by : ArePair m.volume.layout s t → ShowsPages m.volume.layout windows (is.disk ∷ []) (with_sector i s bytes)

@@ -1,7 +1,7 @@
 -- A disk on which a new epoch has begun.
 use Rattle.std.specs.Prelude.{◌≡◌, ◌⊎◌, ℕ, ◌^◌, ◌<◌, ◌≤◌, List, [], ◌∷◌, ◌++◌, length, Some, None, Ok}
 use Rattle.volume_layout.specs.declared.layout.Layout.{Layout}
-use Rattle.volume_layout.specs.Layout.{plan}
+use Rattle.volume_layout.specs.Layout.{IsPlanned}
 use Rattle.volume_layout.specs.Root.{root_bytes}
 use Rattle.fsd_formats.specs.Anchors.{anchor_bytes}
 use Rattle.sector_disk.specs.declared.sector.Sector.TheVariants.{Whole}
@@ -15,7 +15,7 @@ use Rattle.fsd_sound.specs.Sound.{EachStamp, ShowsPages}
 
 -- Both roots stand, each page stands at both homes, and the log has nothing of this epoch or a later one.
 pub record IsHomed (l : Layout) (epoch : ℕ) (pages : List (List ℕ)) (i : Image) : Type 0 where
-  pub planned : plan l.kind l.sectors l.third l.pages ≡ Ok l
+  pub planned : IsPlanned l
   pub long : l.sectors ≤ length i
   pub root : sector_at i 0 ≡ Whole (root_bytes l)
   pub root_copy : sector_at i 4 ≡ Whole (root_bytes l)

@@ -6,7 +6,7 @@ use Rattle.fsd_table.specs.Table.{told_in}
 use Rattle.fsd_files.specs.Disk.{Image, in_runs}
 use Rattle.fsd_files.specs.Files.{Change}
 use Rattle.fsd_sound.specs.Saved.{SavesPages}
-use Rattle.fsd_sound.specs.Sound.{Tells, ShowsPages}
+use Rattle.fsd_sound.specs.Sound.{ShowsPages, Tells}
 
 -- However its weak run wears, the image shows one of some page lists, and each of them tells a prefix of the changes,
 -- with the data of this image, and what its saved map says.

@@ -3,7 +3,7 @@ use Rattle.std.specs.Prelude.{◌≡◌, ℕ, zero, suc, ◌<◌, ◌≤◌, Lis
 use Rattle.std.specs.List.{list_any}
 use Rattle.fsd_bytes.specs.Bytes.{sector}
 use Rattle.volume_layout.specs.declared.layout.Layout.{Layout}
-use Rattle.volume_layout.specs.Layout.{plan, home_a, home_b, InLog}
+use Rattle.volume_layout.specs.Layout.{home_a, home_b, InLog, IsPlanned}
 use Rattle.fsd_formats.specs.Anchors.{anchor_bytes}
 use Rattle.volume_layout.specs.Root.{root_bytes}
 use Rattle.fsd_formats.specs.declared.anchor.Anchor.{Anchor}
@@ -30,7 +30,7 @@ format_anchor = record { epoch = 1; third = 0; first = 1 }
 
 -- Roots, anchors and name pages stand twice, and the log has never been written.
 pub record IsFormatted (l : Layout) (i : Image) : Type 0 where
-  pub planned : plan l.kind l.sectors l.third l.pages ≡ Ok l
+  pub planned : IsPlanned l
   pub long : l.sectors ≤ length i
   pub root : sector_at i 0 ≡ Whole (root_bytes l)
   pub root_copy : sector_at i 4 ≡ Whole (root_bytes l)

@@ -2,7 +2,7 @@
 use Rattle.std.specs.Prelude.{◌≡◌, ◌⊎◌, ℕ, ◌<◌, ◌≤◌, Bool, ◌&&◌, ◌||◌, List, [], ◌∷◌, ◌++◌, length, map, take, Option, Some, None, IfSome, IsSome, nat_le, nat_lt, ◌==◌, IsTrue, Contains, ⊤}
 use Rattle.std.specs.List.{last_or, list_any}
 use Rattle.volume_layout.specs.declared.layout.Layout.{Layout}
-use Rattle.volume_layout.specs.Layout.{home_a, home_b, InLog, turned}
+use Rattle.volume_layout.specs.Layout.{home_a, home_b, InLog, IsBeside, IsPlanned, IsSized, turned}
 use Rattle.volume_layout.specs.Kinds.{longest_of}
 use Rattle.volume_layout.specs.Root.{root_bytes}
 use Rattle.fsd_formats.specs.declared.anchor.Anchor.{Anchor}
@@ -17,10 +17,11 @@ use Rattle.fsd_log.specs.Images.{last_image}
 use Rattle.fsd_files.specs.Disk.{Image, Sectors, in_runs}
 use Rattle.fsd_files.specs.Files.{Change, after}
 use Rattle.fsd_files.specs.Kept.{Describes}
+use Rattle.fsd_files.specs.Space.{Apart}
 use Rattle.fsd_sound.specs.Anchors.{anchor_at, anchor_of, EachAnchor}
 use Rattle.fsd_sound.specs.Laid.{IsLaid}
 use Rattle.fsd_table.specs.Table.{Telling, told_in}
-use Rattle.fsd_sound.specs.Saved.{SavesPages}
+use Rattle.fsd_sound.specs.Saved.{IsOpen, SavesPages}
 use Rattle.fsd_sound.specs.Shown.{records_by, shown, told}
 
 -- P of the bytes, if the sector is Whole
@@ -36,24 +37,35 @@ is_home l s = (nat_le (home_a l 0) s && nat_lt s (home_a l l.pages)) || (nat_le 
 abbrev pub is_twin : Layout → ℕ → Bool
 is_twin l s = list_any (λ t. t == s) (0 ∷ 4 ∷ 8 ∷ 12 ∷ []) || is_home l s
 
--- the bytes are the root of the layout, or of it turned
-abbrev pub IsRootOf : Layout → List ℕ → Type 0
-IsRootOf l bytes = (bytes ≡ root_bytes l) ⊎ (bytes ≡ root_bytes (turned l))
+-- the bytes are the root of one of the two layouts
+abbrev pub IsRootOf : Layout → Layout → List ℕ → Type 0
+IsRootOf l other bytes = (bytes ≡ root_bytes l) ⊎ (bytes ≡ root_bytes other)
 
 -- such a root stands in the sector
-abbrev pub IsRootAt : Layout → Image → ℕ → Type 0
-IsRootAt l i s = (bytes : List ℕ) × (sector_at i s ≡ Whole bytes) × IsRootOf l bytes
+abbrev pub IsRootAt : Layout → Layout → Image → ℕ → Type 0
+IsRootAt l other i s = (bytes : List ℕ) × (sector_at i s ≡ Whole bytes) × IsRootOf l other bytes
+
+-- some root is that of this layout
+abbrev pub Says : Layout → Image → Type 0
+Says k i = (sector_at i 0 ≡ Whole (root_bytes k)) ⊎ (sector_at i 4 ≡ Whole (root_bytes k))
+
+-- so it is of each layout beside this one that a root says
+abbrev pub EachBeside : Layout → Image → (Layout → Type 0) → Type 0
+EachBeside l i P = (k : Layout) → IsBeside l k → Says k i → P k
 
 -- some root is that of the layout turned
 abbrev pub SaysTurned : Layout → Image → Type 0
-SaysTurned l i = (sector_at i 0 ≡ Whole (root_bytes (turned l))) ⊎ (sector_at i 4 ≡ Whole (root_bytes (turned l)))
+SaysTurned l i = Says (turned l) i
 
--- Some copy of the root is whole, each whole one is that of the layout, or of it turned, and twins are damaged in the
--- weak run alone.
+-- Some copy of the root is whole, each whole one is that of the layout, or of another one beside it, the same for both,
+-- and twins are damaged in the weak run alone.
 pub record HasRoots (l : Layout) (weak : Sectors) (i : Image) : Type 0 where
-  pub some : IsRootAt l i 0 ⊎ IsRootAt l i 4
-  pub first : IfWhole i 0 (IsRootOf l)
-  pub second : IfWhole i 4 (IsRootOf l)
+  pub planned : IsPlanned l
+  pub other : Layout
+  pub beside : IsBeside l other
+  pub some : IsRootAt l other i 0 ⊎ IsRootAt l other i 4
+  pub first : IfWhole i 0 (IsRootOf l other)
+  pub second : IfWhole i 4 (IsRootOf l other)
   pub fits : l.sectors ≤ length i
   pub twins : (s : ℕ) → IsTrue (is_twin l s) → sector_at i s ≡ Damaged → IsTrue (weak s)
 
@@ -117,11 +129,14 @@ weak_of windows = open_damage (at_rest windows)
 abbrev pub BearsLast : Layout → List WeakRun → Type 0
 BearsLast l windows = IfSome (last_or None windows) (λ run. run.count ≤ longest_of l.kind)
 
--- The image may be mounted with the layout turned as well: that bears the last window's run too, and nothing is logged,
--- however the run wears.
-pub record IsEither (l : Layout) (windows : List WeakRun) (i : Image) : Type 0 where
-  pub borne : BearsLast (turned l) windows
-  pub empty : AllWorn (weak_of windows) (LogsNothing l) i
+-- The image may be mounted with a layout beside this one as well: that bears the last window's run too and has room, and
+-- where it is this one turned nothing is logged, however the run wears. Where it has another number of sectors, no copy of
+-- the anchor says that the volume was closed: a map that was saved by one of them says nothing of the other's data area.
+pub record IsEither (l k : Layout) (windows : List WeakRun) (i : Image) : Type 0 where
+  pub borne : BearsLast k windows
+  pub fits : k.sectors ≤ length i
+  pub empty : k ≡ turned l → AllWorn (weak_of windows) (LogsNothing l) i
+  pub opened : IsSized l k → IsOpen i
 
 -- The machine's present window is the last of these.
 pub record EndIn (now : Windows) (windows : List WeakRun) : Type 0 where
@@ -139,27 +154,37 @@ abbrev pub Tells : Layout → Sectors → Image → List Change → ℕ → Opti
 Tells l hurt i h f None = ⊥
 Tells l hurt i h f (Some t) = (n : ℕ) × IsPrefixOf h f n × Describes l hurt i (after (take n h)) t.entries
 
+-- the sectors of the entries that are told lie in the data area of the layout
+abbrev pub LiesIn : Layout → Option Telling → Type 0
+LiesIn k None = ⊤
+LiesIn k (Some t) = Apart k (map (λ e. e.runs) t.entries)
+
+abbrev pub AllLieIn : Layout → List (List (List ℕ)) → Type 0
+AllLieIn k choices = (pages : List (List ℕ)) → Contains choices pages → LiesIn k (told_in pages)
+
 -- ---- the whole
 
--- the layout is this one, or it turned, where a root says so
+-- the layout is this one, or one beside it, where a root says so
 abbrev pub IsSaid : Layout → Image → (layout : Layout) → Type 0
-IsSaid l i layout = (layout ≡ l) ⊎ ((layout ≡ turned l) × SaysTurned l i)
+IsSaid l i layout = (layout ≡ l) ⊎ (IsBeside l layout × Says layout i)
 
--- What holds of the disk whatever its pages tell. The volume bears the last window's run. Where a root says the layout
--- turned, the image may be mounted with that as well.
+-- What holds of the disk whatever its pages tell. The volume bears the last window's run. Where a root says a layout
+-- beside this one, the image may be mounted with that as well.
 pub record IsReadable (l : Layout) (windows : List WeakRun) (i : Image) : Type 0 where
   pub borne : BearsLast l windows
   pub roots : HasRoots l (weak_of windows) i
-  pub either : SaysTurned l i → IsEither l windows i
+  pub either : EachBeside l i (λ k. IsEither l k windows i)
   pub anchors : HasAnchors l i
   pub log : (j : Image) → IsWorn (weak_of windows) i j → HasLog l (weak_of windows) j
   pub homes : (j : Image) → IsWorn (weak_of windows) i j → HasHomes l j
 
 -- The image may stand after these changes, the first f of them forced: however its weak run wears, it tells a prefix of
--- them with every forced one, and shows what its saved map says, where its volume was closed.
+-- them with every forced one, and what is told lies in the data area of each layout beside this one that a root says. It
+-- shows what its saved map says, where its volume was closed.
 pub record IsSound (l : Layout) (windows : List WeakRun) (h : List Change) (f : ℕ) (i : Image) : Type 0 where
   pub readable : IsReadable l windows i
   pub tells : (j : Image) → IsWorn (weak_of windows) i j → Tells l (in_runs windows) j h f (told l j)
+  pub within : EachBeside l i (λ k. (j : Image) → IsWorn (weak_of windows) i j → LiesIn k (told l j))
   pub saved : (j : Image) → IsWorn (weak_of windows) i j → (pages : List (List ℕ)) → shown l j ≡ Some pages → SavesPages l i pages
 
 -- the pages that are shown are one of these lists
@@ -167,9 +192,11 @@ abbrev pub ShowsOne : List (List (List ℕ)) → Option (List (List ℕ)) → Ty
 ShowsOne choices None = ⊥
 ShowsOne choices (Some pages) = Contains choices pages
 
--- However its weak run wears, the image shows the pages of one of these lists.
+-- However its weak run wears, the image shows the pages of one of these lists. What they tell lies in the data area of each
+-- layout beside this one that a root says.
 pub record ShowsPages (l : Layout) (windows : List WeakRun) (choices : List (List (List ℕ))) (i : Image) : Type 0 where
   pub readable : IsReadable l windows i
+  pub within : EachBeside l i (λ k. AllLieIn k choices)
   pub shows : (j : Image) → IsWorn (weak_of windows) i j → ShowsOne choices (shown l j)
 
 -- ---- where nothing wears

@@ -2,16 +2,17 @@
 ghost use Rattle.std.specs.Prelude.{◌≡◌, ◌⊎◌, ◌<◌, get_or, ℕ, List, [], length, Some, None};
 ghost use Rattle.volume_layout.specs.declared.layout.Layout.{Layout};
 ghost use Rattle.volume_layout.specs.Root.{root_bytes};
-ghost use Rattle.volume_layout.specs.Layout.{home_a, home_b, turned};
+ghost use Rattle.volume_layout.specs.Layout.{home_a, home_b, IsBeside};
 ghost use Rattle.sector_disk.specs.declared.sector.WeakRun.{WeakRun};
 ghost use Rattle.sector_disk.specs.declared.sector.Sector.TheVariants.{Whole};
 ghost use Rattle.sector_disk.specs.Image.{sector_at, with_sector};
 ghost use Rattle.fsd_formats.specs.declared.anchor.Anchor.{Anchor};
 ghost use Rattle.fsd_files.specs.Disk.{Image};
 ghost use Rattle.fsd_sound.specs.Anchors.{anchor_of};
+ghost use Rattle.fsd_sound.specs.Laid.{HasOwnRoots};
 ghost use Rattle.fsd_sound.specs.Shown.{records_by, shown};
 ghost use Rattle.fsd_log.specs.Images.{last_image};
-ghost use Rattle.fsd_sound.specs.Sound.{weak_of, IsEither, ShowsPages};
+ghost use Rattle.fsd_sound.specs.Sound.{weak_of, AllLieIn, IsEither, IsRootOf, ShowsPages};
 ghost use Rattle.fsd_sound.specs.Homes.{AreTwins};
 ghost use Rattle.fsd_sound.specs.Logged.{IsLogged};
 ghost use Rattle.fsd_sound.specs.Windows.{IsNarrow};
@@ -34,10 +35,13 @@ pub fn roots_may_be_mended()
         ShowsPages l windows choices i → ShowsPages l windows choices (with_sector i s (root_bytes l)) }
 {}
 
-/// So may it with those of the layout turned, where the image may be mounted with that as well.
-pub fn roots_may_be_turned()
-    ensures { (l : Layout) (windows : List WeakRun) (choices : List (List (List ℕ))) (s : ℕ) (i : Image) → IsNarrow (weak_of windows) → (s ≡ 0) ⊎ (s ≡ 4) → s < length i → IsEither l windows i →
-        ShowsPages l windows choices i → ShowsPages l windows choices (with_sector i s (root_bytes (turned l))) }
+/// So may it with those of a layout beside it, where the image may be mounted with that as well, no root
+/// says a third, and what the lists tell lies in its data area.
+pub fn roots_may_be_beside()
+    ensures shows { (l k : Layout) (windows : List WeakRun) (choices : List (List (List ℕ))) (s : ℕ) (i : Image) → IsNarrow (weak_of windows) → (shows : ShowsPages l windows choices i) → IsBeside l k → IsRootOf l shows.readable.roots.other (root_bytes k) →
+        IsEither l k windows i → AllLieIn k choices → (s ≡ 0) ⊎ (s ≡ 4) → s < length i → ShowsPages l windows choices (with_sector i s (root_bytes k)) }
+    ensures own { (l k : Layout) (windows : List WeakRun) (choices : List (List (List ℕ))) (i : Image) → HasOwnRoots l (weak_of windows) i → IsBeside l k → ShowsPages l windows choices i →
+        (shows : ShowsPages l windows choices i) × (shows.readable.roots.other ≡ k) }
 {}
 
 /// A page's last image in the log is what is shown of it, and where it has none, what stands whole at either home.

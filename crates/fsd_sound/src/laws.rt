@@ -3,7 +3,7 @@ ghost use Rattle.std.specs.Prelude.{◌≡◌, ◌≤◌, ◌^◌, ℕ, List, []
 ghost use Rattle.fsd_formats.specs.declared.anchor.Anchor.{Anchor};
 ghost use Rattle.std.specs.List.{last_or};
 ghost use Rattle.volume_layout.specs.declared.layout.Layout.{Layout};
-ghost use Rattle.volume_layout.specs.Layout.{IsFormOf, map_start};
+ghost use Rattle.volume_layout.specs.Layout.{map_start, IsFormOf};
 ghost use Rattle.sector_disk.specs.declared.sector.WeakRun.{WeakRun};
 ghost use Rattle.sector_disk.specs.Image.{Windows, open_damage, IsWorn};
 ghost use Rattle.fsd_files.specs.Disk.{Image, in_runs};
@@ -15,7 +15,7 @@ ghost use Rattle.fsd_sound.specs.Mounted.{Mounted, StandsOver, HasOpen, IsMounte
 ghost use Rattle.fsd_table.specs.Table.{one_leaf, told_in};
 ghost use Rattle.fsd_sound.specs.Saved.{IsOpen, SavesPages};
 ghost use Rattle.fsd_sound.specs.Shown.{told};
-ghost use Rattle.fsd_sound.specs.Sound.{BearsLast, EndIn, weak_of, IsSaid, IsSound, IsStill, ShowsPages, Tells, TellsPrefix};
+ghost use Rattle.fsd_sound.specs.Sound.{AllLieIn, BearsLast, EndIn, weak_of, IsSaid, IsSound, IsStill, ShowsPages, Tells, TellsPrefix};
 ghost use Rattle.fsd_sound.specs.Choices.{TellsChoices};
 ghost use Rattle.fsd_sound.specs.Windows.{IsApart};
 ghost use Rattle.volume_layout.specs.Kinds.{gap_of, longest_of};
@@ -44,13 +44,13 @@ pub fn sound_disks_wear()
         IsWorn (weak_of windows) i j → ShowsPages l windows choices i → ShowsPages l windows choices j }
 {}
 
-/// What is sound by a layout is so by each that its roots say: by it, or by it turned.
+/// What is sound by a layout is so by each that its roots say: by it, or by one beside it.
 pub fn disks_are_sound_by_each_root()
     ensures form { (l : Layout) (i : Image) (layout : Layout) → IsSaid l i layout → IsFormOf l layout }
     ensures sound { (l : Layout) (windows : List WeakRun) (h : List Change) (f : ℕ) (i : Image) (layout : Layout) → IsSaid l i layout →
         IsSound l windows h f i → IsSound layout windows h f i }
     ensures pages { (l : Layout) (windows : List WeakRun) (choices : List (List (List ℕ))) (i : Image) (layout : Layout) → IsSaid l i layout →
-        ShowsPages l windows choices i → ShowsPages layout windows choices i }
+        AllLieIn l choices → ShowsPages l windows choices i → ShowsPages layout windows choices i }
 {}
 
 /// What the machine's open windows wear, the last window wears:

@@ -28,8 +28,8 @@ pub fn own_logs_wear()
 /// A volume's own log without a record is empty in the other form too, however a run wears that both layouts bear: so
 /// the image may be mounted with the layout turned as well, and once the roots are turned the log is that layout's own.
 pub fn empty_logs_may_be_turned()
-    ensures either { (l : Layout) (a : Anchor) (h : Head) (windows : List WeakRun) (i : Image) → l.pages ≤ 2 ^ 32 → BearsLast l windows → BearsLast (turned l) windows →
-        HasOwnLog l a [] h (weak_of windows) i → IsEither l windows i }
+    ensures either { (l : Layout) (a : Anchor) (h : Head) (windows : List WeakRun) (i : Image) → l.pages ≤ 2 ^ 32 → l.sectors ≤ length i → BearsLast l windows → BearsLast (turned l) windows →
+        HasOwnLog l a [] h (weak_of windows) i → IsEither l (turned l) windows i }
     ensures own { (l : Layout) (a : Anchor) (h : Head) (weak : Sectors) (i j : Image) → a.epoch < 2 ^ 32 → a.first < 2 ^ 32 → a.third ≤ 2 → ((s : ℕ) → 8 ≤ s → s < 16 + 3 * l.third → sector_at j s ≡ sector_at i s) →
         HasOwnRoots (turned l) weak j → HasOwnLog l a [] h weak i → HasOwnLog (turned l) a [] h weak j }
 {}

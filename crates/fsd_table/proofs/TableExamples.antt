@@ -101,7 +101,7 @@ other_kinds = refl
 
 -- on a volume whose data area is 921 to 2047
 abbrev clashes_with : List Entry → Entry → Bool
-clashes_with = entry_clashes (record { sectors = 2048; third = 256; pages = 64; kind = Two })
+clashes_with = entry_clashes (record { sectors = 2048; third = 256; pages = 64; kind = Two; most = 0 })
 
 abbrev first_three : List Entry
 first_three = entry_in (long 97) (run_of 921 2 ∷ []) ∷ entry_in (long 98) (run_of 923 1 ∷ run_of 922 1 ∷ []) ∷ entry_in (long 99) (run_of 930 1 ∷ run_of 930 1 ∷ []) ∷ []

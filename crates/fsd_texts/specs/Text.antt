@@ -6,7 +6,7 @@ use Rattle.fsd_bytes.specs.Keys.{key_text}
 use Rattle.volume_layout.specs.declared.layout.Layout.{Layout}
 use Rattle.volume_layout.specs.Layout.{data_start}
 use Rattle.volume_layout.specs.declared.fault.LayoutFault.{LayoutFault}
-use Rattle.volume_layout.specs.declared.fault.LayoutFault.TheVariants.{BadThird, BadPages, TooLarge, TooSmall}
+use Rattle.volume_layout.specs.declared.fault.LayoutFault.TheVariants.{BadThird, BadPages, TooLarge, BadMost, TooSmall}
 use Rattle.fsd_texts.specs.declared.bad_line.Cause.{Cause}
 use Rattle.fsd_texts.specs.declared.bad_line.Cause.TheVariants.{LongLine, NoNewline, EmptyLine, UnknownWord, WordCount, BadNumber, BadName, BadKey, BadPattern, ShortBytes, NoNewlineAfterBytes}
 use Rattle.fsd_texts.specs.declared.bad_line.BadLine.{BadLine}
@@ -59,6 +59,7 @@ abbrev pub layout_words : LayoutFault → List (List ℕ)
 layout_words (BadThird t) = codes "third" ∷ number t ∷ []
 layout_words (BadPages p) = codes "pages" ∷ number p ∷ []
 layout_words (TooLarge n) = codes "too-large" ∷ number n ∷ []
+layout_words (BadMost q) = codes "most" ∷ number q ∷ []
 layout_words (TooSmall need) = codes "too-small" ∷ number need ∷ []
 
 abbrev pub refused_line : List (List ℕ) → List ℕ

@@ -6,7 +6,8 @@ use Rattle.sector_disk.specs.Machine.{Moment}
 use Rattle.fsd_log.specs.Scan.{Placed}
 use Rattle.fsd_files.specs.Disk.{Image}
 use Rattle.fsd_sound.specs.Shown.{shown}
-use Rattle.fsd_sound.specs.Sound.{ShowsOne, ShowsPages}
+use Rattle.fsd_sound.specs.Sound.{ShowsOne, ShowsPages, weak_of}
+use Rattle.fsd_sound.proofs.SaidLaws.{own_alone}
 use Rattle.log_thirds.specs.LogValue.{LogValue}
 use Rattle.fsd_sound.specs.Mounted.{AgreeOutside}
 use Rattle.group_commit.specs.Resident.{ResidentValue}
@@ -23,7 +24,7 @@ shows_more disk now (Some pages) one =
 
 pub idle_commits : (log : LogValue) (s : ResidentValue) (records : List Placed) (disk now : List (List ℕ)) (windows : List WeakRun) (old : Moment) → StandsOverDisk log records disk s windows old.image → Commits log.layout windows disk now old old
 idle_commits log s records disk now windows old over = record {
-  shows = record { readable = over.shows.readable; shows = λ j worn. shows_more disk now (shown log.layout j) (over.shows.shows j worn) };
+  shows = record { readable = over.shows.readable; within = λ k beside says. absurd (own_alone log.layout k (weak_of windows) old.image over.shows.readable.roots.planned over.own.roots beside says); shows = λ j worn. shows_more disk now (shown log.layout j) (over.shows.shows j worn) };
   kept = λ t ge. inl refl;
   outside = record { size = refl; others = λ t out. inl refl };
   opened = over.own.opened;

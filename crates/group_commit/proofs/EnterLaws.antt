@@ -353,9 +353,9 @@ module _ (log : LogValue) (records : List Placed) (disk : List (List ℕ)) (wind
   part zero zero le once = record { shows = at.over.shows; same = λ s first second. refl; opened = at.over.own.opened }
   part zero (suc k) le once = absurd (omega (arith, le))
   part (suc zero) zero le once = subst Part (sym (stand_one at.image 8 (anchor_bytes (moved_anchor log)) bytes_long))
-      (record { shows = all_shows log.layout windows at.over.shows.readable.borne (disk ∷ []) (with_sector at.image 8 (anchor_bytes (moved_anchor log))) (both_same log.layout windows at.image (with_sector at.image 8 (anchor_bytes (moved_anchor log))) at.over.shows.readable (λ s head. with_other at.image 8 s (anchor_bytes (moved_anchor log)) (λ e. omega (arith, e, head)))) stands_one; same = λ s first second. with_other at.image 8 s (anchor_bytes (moved_anchor log)) first; opened = open_one })
+      (record { shows = all_shows log.layout windows at.over.shows.readable.borne (disk ∷ []) (with_sector at.image 8 (anchor_bytes (moved_anchor log))) (both_same log.layout windows (disk ∷ []) at.image (with_sector at.image 8 (anchor_bytes (moved_anchor log))) at.over.shows (omega (arith, length-set at.image 8 (Whole (anchor_bytes (moved_anchor log))))) (λ s head. with_other at.image 8 s (anchor_bytes (moved_anchor log)) (λ e. omega (arith, e, head))) (λ was. open_one)) stands_one; same = λ s first second. with_other at.image 8 s (anchor_bytes (moved_anchor log)) first; opened = open_one })
   part (suc zero) (suc zero) le once = subst Part (sym two_is)
-      (record { shows = all_shows log.layout windows at.over.shows.readable.borne (disk ∷ []) (with_sector (with_sector at.image 8 (anchor_bytes (moved_anchor log))) 12 (anchor_bytes (moved_anchor log))) (both_same log.layout windows at.image (with_sector (with_sector at.image 8 (anchor_bytes (moved_anchor log))) 12 (anchor_bytes (moved_anchor log))) at.over.shows.readable (λ s head. same_two s (λ e. omega (arith, e, head)) (λ e. omega (arith, e, head)))) stands_two; same = same_two; opened = open_two })
+      (record { shows = all_shows log.layout windows at.over.shows.readable.borne (disk ∷ []) (with_sector (with_sector at.image 8 (anchor_bytes (moved_anchor log))) 12 (anchor_bytes (moved_anchor log))) (both_same log.layout windows (disk ∷ []) at.image (with_sector (with_sector at.image 8 (anchor_bytes (moved_anchor log))) 12 (anchor_bytes (moved_anchor log))) at.over.shows (omega (arith, length-set at.image 8 (Whole (anchor_bytes (moved_anchor log))), length-set (with_sector at.image 8 (anchor_bytes (moved_anchor log))) 12 (Whole (anchor_bytes (moved_anchor log))))) (λ s head. same_two s (λ e. omega (arith, e, head)) (λ e. omega (arith, e, head))) (λ was. open_two)) stands_two; same = same_two; opened = open_two })
   part (suc zero) (suc (suc k)) le once = absurd (omega (arith, le))
   part (suc (suc j)) k le once = absurd (omega (arith, once))
 

@@ -6,6 +6,7 @@ use Rattle.std.specs.Option.{option_or}
 use Rattle.std.proofs.lemmas.Bool.{and_parts, leb-true, cases_lt, or_cases}
 use Rattle.std.proofs.lemmas.List.{get_or_append_left, get_or_push, length_push}
 use Rattle.volume_layout.specs.declared.layout.Layout.{Layout}
+use Rattle.volume_layout.specs.Layout.{turned}
 use Rattle.volume_layout.specs.Layout.{home_a, home_b, InLog}
 use Rattle.volume_layout.specs.Root.{root_bytes}
 use Rattle.volume_layout.specs.Kinds.{gap_of}
@@ -31,14 +32,14 @@ use Rattle.fsd_sound.specs.Anchors.{anchor_at, anchor_of, EachAnchor}
 use Rattle.fsd_sound.specs.Homes.{home_of}
 use Rattle.fsd_sound.specs.Laid.{HasOwnLog, AllStand, HasFront, HasCopies, GoodCopies, IsLaid, AllLaid}
 use Rattle.fsd_sound.specs.Shown.{records_by, newest, each_of, all_pages, shown_by, shown}
-use Rattle.fsd_sound.specs.Sound.{disk_records, IfWhole, is_home, is_twin, HasRoots, EachStamp, HasAnchors, IsSuffix, ScansAgree, HasLog, HasHomes, EndIn, IsRootOf, SaysTurned, at_rest, weak_of, ShowsOne}
+use Rattle.fsd_sound.specs.Sound.{disk_records, IfWhole, is_home, is_twin, HasRoots, EachStamp, HasAnchors, IsSuffix, ScansAgree, HasLog, HasHomes, EndIn, IsRootOf, Says, SaysTurned, at_rest, weak_of, ShowsOne}
 use Rattle.fsd_sound.proofs.SaidLaws.{own_roots_say, says_same, says_worn, some_same}
 use Rattle.fsd_sound.specs.Saved.{IsOpen}
 use Rattle.fsd_sound.proofs.SoundLaws.{shows_still}
 use Rattle.fsd_sound.proofs.WindowLaws.{open_is_weak}
 use Rattle.fsd_sound.specs.Stands.{StandsShown}
 use Rattle.fsd_sound.specs.Windows.{IsApart}
-use Rattle.fsd_sound.proofs.CommuteLaws.{all_shows}
+use Rattle.fsd_sound.proofs.CommuteLaws.{BearsBeside, both_own, all_shows}
 use Rattle.fsd_sound.proofs.LaidLaws.{has_worn, own_worn}
 use Rattle.fsd_sound.proofs.LogPlaces.{has_same}
 use Rattle.log_thirds.specs.LogValue.{LogValue}
@@ -206,9 +207,15 @@ module _ (log : LogValue) (s : ResidentValue) (images : List ℕ) (records : Lis
   head_same : (stood t : ℕ) → t < 8 → sector_at (stand old.image place bytes stood) t ≡ sector_at old.image t
   head_same stood t head = stand_other old.image place bytes stood t (inl (omega (arith, from, head)))
 
+  -- a root says no more than before
+  says_before : (stood : ℕ) (i : Image) → IsWorn hurt (stand old.image place bytes stood) i → (k : Layout) → Says k i → Says k old.image
+  says_before stood i worn k says = says_same k old.image (stand old.image place bytes stood) (head_same stood) (says_worn k (stand old.image place bytes stood) i hurt worn says)
+
   never_turned : (stood : ℕ) (i : Image) → IsWorn hurt (stand old.image place bytes stood) i → SaysTurned l i → ⊥
-  never_turned stood i worn says = own_roots_say l hurt old.image m.over.own.roots
-      (says_same l old.image (stand old.image place bytes stood) (head_same stood) (says_worn l (stand old.image place bytes stood) i hurt worn says))
+  never_turned stood i worn says = own_roots_say l hurt old.image m.over.own.roots (says_before stood i worn (turned l) says)
+
+  beside : (choices : List (List (List ℕ))) (stood : ℕ) (i : Image) → IsWorn hurt (stand old.image place bytes stood) i → BearsBeside l windows choices i
+  beside choices stood i worn = both_own l hurt windows choices old.image i m.over.shows.readable.roots.planned m.over.own.roots (says_before stood i worn)
 
   -- ---- one image that a stop may leave
 
@@ -266,9 +273,12 @@ module _ (log : LogValue) (s : ResidentValue) (images : List ℕ) (records : Lis
     roots =
         let was = over.shows.readable.roots in
         record {
-          some = some_same l base i (same_far 0 (inl (omega arith))) (same_far 4 (inl (omega arith))) was.some;
-          first = whole_far 0 (IsRootOf l) (inl (omega arith)) was.first;
-          second = whole_far 4 (IsRootOf l) (inl (omega arith)) was.second;
+          planned = was.planned;
+          other = was.other;
+          beside = was.beside;
+          some = some_same l base i was.other (same_far 0 (inl (omega arith))) (same_far 4 (inl (omega arith))) was.some;
+          first = whole_far 0 (IsRootOf l was.other) (inl (omega arith)) was.first;
+          second = whole_far 4 (IsRootOf l was.other) (inl (omega arith)) was.second;
           fits = omega (arith, was.fits, size);
           twins = λ t twin is. was.twins t twin (sym (same_far t (twin_outside l t twin)) ∙ is);
         }
@@ -520,7 +530,7 @@ module _ (log : LogValue) (s : ResidentValue) (images : List ℕ) (records : Lis
 
   pub commits : (left : Moment) → StandsInPart place bytes (record_len (gap_of log.layout) n) old left → Commits l windows disk now old left
   commits left part = record {
-    shows = all_shows l windows m.over.shows.readable.borne (disk ∷ now ∷ []) left.image (λ says. absurd (never_turned part.stood left.image (in_window part.stood left part.holds) says))
+    shows = all_shows l windows m.over.shows.readable.borne (disk ∷ now ∷ []) left.image (beside (disk ∷ now ∷ []) part.stood left.image (in_window part.stood left part.holds))
         (λ j w. stands_either j part.stood part.within (worn_trans hurt (stand old.image place bytes part.stood) left.image j (in_window part.stood left part.holds) w));
     kept = λ t ge. ⊎_elim
         (λ same. inl (same ∙ stand_other old.image place bytes part.stood t (inr (omega (arith, inside, part.within)))))
@@ -540,7 +550,7 @@ module _ (log : LogValue) (s : ResidentValue) (images : List ℕ) (records : Lis
   committed left holds = record {
     records = records ++ r ∷ [];
     stands = record {
-      shows = all_shows l windows m.over.shows.readable.borne (now ∷ []) left.image (λ says. absurd (never_turned (record_len (gap_of log.layout) n) left.image (in_window (record_len (gap_of log.layout) n) left holds) says))
+      shows = all_shows l windows m.over.shows.readable.borne (now ∷ []) left.image (beside (now ∷ []) (record_len (gap_of log.layout) n) left.image (in_window (record_len (gap_of log.layout) n) left holds))
           (λ j w. stands_now j (record_len (gap_of log.layout) n) (omega arith) (worn_trans hurt (stand old.image place bytes (record_len (gap_of log.layout) n)) left.image j (in_window (record_len (gap_of log.layout) n) left holds) w) refl);
       own = own_now left.image (record_len (gap_of log.layout) n) (omega arith) (in_window (record_len (gap_of log.layout) n) left holds) refl;
       clean = record { size = refl; each = λ page out. refl };

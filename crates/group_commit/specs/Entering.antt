@@ -1,7 +1,7 @@
 -- A force that comes round to the log's first third.
 use Rattle.std.specs.Prelude.{◌≡◌, ⊤, false, ℕ, ◌+◌, ◌*◌, ◌<◌, List, [], ◌∷◌, length, Ok}
 use Rattle.volume_layout.specs.declared.layout.Layout.{Layout}
-use Rattle.volume_layout.specs.Layout.{plan}
+use Rattle.volume_layout.specs.Layout.{IsPlanned}
 use Rattle.volume_layout.specs.Kinds.{gap_of}
 use Rattle.sector_disk.specs.declared.sector.WeakRun.{WeakRun}
 use Rattle.sector_disk.specs.Image.{sector_at}
@@ -53,7 +53,7 @@ pub record IsHoming (log : LogValue) (records : List Placed) (disk : List (List 
 
 -- No two sectors of the window but neighbours are weak.
 pub record MayHome (log : LogValue) (windows : List WeakRun) (old : Moment) : Type 0 where
-  pub planned : plan log.layout.kind log.layout.sectors log.layout.third log.layout.pages ≡ Ok log.layout
+  pub planned : IsPlanned log.layout
   pub shape : FitsLayout log
   pub apart : IsApart (gap_of log.layout) (weak_of windows)
   pub ends : EndIn old.windows windows

@@ -3,7 +3,7 @@ use Rattle.std.proofs.Common.{◌≡◌, inl, inr, ⊎_elim, ℕ, ◌+◌, ◌*�
 use Rattle.std.specs.Prelude.{IfSome, IsFalse, IsSome}
 use Rattle.std.specs.List.{AllByRecursion}
 use Rattle.volume_layout.specs.declared.layout.Layout.{Layout}
-use Rattle.volume_layout.specs.Layout.{plan}
+use Rattle.volume_layout.specs.Layout.{IsPlanned}
 use Rattle.volume_layout.proofs.RootLaws.{planned_bounds}
 use Rattle.volume_layout.specs.Kinds.{gap_of, longest_of}
 use Rattle.fsd_formats.specs.declared.anchor.Anchor.{Anchor}
@@ -104,7 +104,7 @@ one_shown : (choices : List (List (List ℕ))) (o : Option (List (List ℕ))) �
 one_shown choices None is = absurd is
 one_shown choices (Some pages) is = (pages, refl, is)
 
-module _ (l : Layout) (windows : List WeakRun) (choices : List (List (List ℕ))) (log : LogValue) (old : Moment) (planned : plan l.kind l.sectors l.third l.pages ≡ Ok l) (seen : IsSeen l windows choices log old) where
+module _ (l : Layout) (windows : List WeakRun) (choices : List (List (List ℕ))) (log : LogValue) (old : Moment) (planned : IsPlanned l) (seen : IsSeen l windows choices log old) where
   abbrev weak : Sectors
   weak = weak_of windows
 

@@ -3,7 +3,7 @@ use Rattle.std.proofs.Common.{◌≡◌, ◌≢◌, ◌⊎◌, inl, inr, ⊎_eli
 use Rattle.std.proofs.lemmas.List.{length-set}
 use Rattle.std.proofs.lemmas.Bool.{cases_lt}
 use Rattle.volume_layout.specs.declared.layout.Layout.{Layout}
-use Rattle.volume_layout.specs.Layout.{plan, home_a, home_b}
+use Rattle.volume_layout.specs.Layout.{home_a, home_b, IsPlanned}
 use Rattle.volume_layout.specs.Root.{root_bytes}
 use Rattle.volume_layout.proofs.RootLaws.{planned_bounds}
 use Rattle.sector_disk.specs.declared.sector.Sector.TheVariants.{Whole}
@@ -64,7 +64,7 @@ no_home_between l a b page s is_a is_b within (inl here) before = omega (arith, 
 no_home_between l a b page s is_a is_b within (inr here) before = absurd (omega (arith, here, is_b, before))
 
 -- a home lies on the disk
-pub home_inside : (l : Layout) (page s : ℕ) → plan l.kind l.sectors l.third l.pages ≡ Ok l → page < l.pages → IsHomeOf l page s → s < l.sectors
+pub home_inside : (l : Layout) (page s : ℕ) → IsPlanned l → page < l.pages → IsHomeOf l page s → s < l.sectors
 home_inside l page s planned lt home = let bounds = planned_bounds l planned in ⊎_elim (λ a. omega (arith, a, lt, bounds.sectors_least)) (λ b. omega (arith, b, lt, bounds.sectors_least)) home
 
 -- what is written of a page is one sector

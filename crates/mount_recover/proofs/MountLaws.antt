@@ -5,10 +5,9 @@ use Rattle.std.specs.Prelude.{IsTrue, IsSome, option_and_then, nat_le}
 use Rattle.std.specs.List.{AllByRecursion}
 use Rattle.std.proofs.lemmas.Bool.{cond-true, le-leb, and_parts, or_left, or_right}
 use Rattle.volume_layout.specs.declared.layout.Layout.{Layout}
-use Rattle.volume_layout.specs.Layout.{plan, turned}
+use Rattle.volume_layout.specs.Layout.{turned, IsPlanned}
 use Rattle.volume_layout.specs.Root.{root_bytes, read_root}
 use Rattle.volume_layout.proofs.RootLaws.{planned_root_is_read}
-use Rattle.volume_layout.proofs.TurnedLaws.{planned_turned}
 use Rattle.volume_layout.specs.Kinds.{gap_of}
 use Rattle.fsd_formats.specs.declared.anchor.Anchor.{Anchor}
 use Rattle.fsd_formats.specs.Record.{record_len, end_bytes}
@@ -27,13 +26,13 @@ use Rattle.fsd_sound.specs.Anchors.{anchor_of}
 use Rattle.fsd_sound.specs.Laid.{AllStand}
 use Rattle.fsd_sound.specs.Roots.{counted_root, root_at, root_of}
 use Rattle.fsd_sound.specs.Shown.{records_by, shown_by}
-use Rattle.fsd_sound.specs.Sound.{EndIn, IsRootAt, IsRootOf, IsSaid, SaysTurned, ShowsOne, ShowsPages, weak_of}
+use Rattle.fsd_sound.specs.Sound.{AllLieIn, EndIn, IsRootAt, IsRootOf, IsSaid, Says, ShowsOne, ShowsPages, weak_of}
 use Rattle.fsd_sound.proofs.LogPlaces.{IsRecord, scan_records}
-use Rattle.fsd_sound.proofs.SaidLaws.{says_worn}
+use Rattle.fsd_sound.proofs.SaidLaws.{planned_beside, said_again, says_worn}
 use Rattle.fsd_sound.proofs.SectorFacts.{not_damaged}
 use Rattle.fsd_sound.proofs.SavedLaws.{closes_more, worn_closes}
 use Rattle.fsd_sound.proofs.SoundLaws.{shows_still}
-use Rattle.fsd_sound.proofs.TurnedLaws.{said_shows}
+use Rattle.fsd_sound.proofs.BesideLaws.{said_shows}
 use Rattle.fsd_sound.proofs.WindowLaws.{open_is_weak, borne_apart}
 use Rattle.log_thirds.specs.Images.{AreOfLogged}
 use Rattle.log_thirds.specs.LogValue.{LogValue}
@@ -61,25 +60,29 @@ use Rattle.volume_layout.proofs.KindLaws.{gap_most}
 
 -- ---- the root of an image that shows pages
 
-root_stands : (l : Layout) (sectors : ℕ) (i : Image) (s : ℕ) → plan l.kind l.sectors l.third l.pages ≡ Ok l → l.sectors ≤ sectors → sector_at i s ≡ Whole (root_bytes l) → root_at sectors i s ≡ Some l
+root_stands : (l : Layout) (sectors : ℕ) (i : Image) (s : ℕ) → IsPlanned l → l.sectors ≤ sectors → sector_at i s ≡ Whole (root_bytes l) → root_at sectors i s ≡ Some l
 root_stands l sectors i s planned room stands =
     ap (λ (x : Sector). option_and_then (counted_root sectors) (option_and_then read_root (bytes_of x))) stands
     ∙ ap (option_and_then (counted_root sectors)) (planned_root_is_read l planned)
     ∙ cond-true (nat_le l.sectors sectors) (Some l) None (le-leb l.sectors sectors room)
 
--- the root that the image tells is the layout, or it turned, where a root says so
+-- the root that the image tells is the layout, or one beside it, where a root says so
 pub record TellsRoot (l : Layout) (sectors : ℕ) (i : Image) : Type 0 where
   pub layout : Layout
   pub said : IsSaid l i layout
   pub root : root_of sectors i ≡ Some layout
 
-module _ (l : Layout) (sectors : ℕ) (windows : List WeakRun) (choices : List (List (List ℕ))) (i : Image) (planned : plan l.kind l.sectors l.third l.pages ≡ Ok l) (room : l.sectors ≤ sectors) (shows : ShowsPages l windows choices i) where
+module _ (l : Layout) (sectors : ℕ) (windows : List WeakRun) (choices : List (List (List ℕ))) (i : Image) (planned : IsPlanned l) (room : (k : Layout) → IsSaid l i k → k.sectors ≤ sectors) (shows : ShowsPages l windows choices i) where
+  abbrev second_layout : Layout
+  second_layout = shows.readable.roots.other
+
   -- a root of it counts
-  counts : (s : ℕ) (bytes : List ℕ) → sector_at i s ≡ Whole bytes → IsRootOf l bytes → (sector_at i s ≡ Whole (root_bytes (turned l)) → SaysTurned l i) → (k : Layout) × IsSaid l i k × (root_at sectors i s ≡ Some k)
-  counts s bytes there (inl is) says = (l, inl refl, root_stands l sectors i s planned room (there ∙ ap (λ (b : List ℕ). Whole b) is))
+  counts : (s : ℕ) (bytes : List ℕ) → sector_at i s ≡ Whole bytes → IsRootOf l second_layout bytes → (sector_at i s ≡ Whole (root_bytes second_layout) → Says second_layout i) → (k : Layout) × IsSaid l i k × (root_at sectors i s ≡ Some k)
+  counts s bytes there (inl is) says = (l, inl refl, root_stands l sectors i s planned (room l (inl refl)) (there ∙ ap (λ (b : List ℕ). Whole b) is))
   counts s bytes there (inr is) says =
-      let at : sector_at i s ≡ Whole (root_bytes (turned l)) = there ∙ ap (λ (b : List ℕ). Whole b) is in
-      (turned l, inr (refl, says at), root_stands (turned l) sectors i s (planned_turned l planned) room at)
+      let at : sector_at i s ≡ Whole (root_bytes second_layout) = there ∙ ap (λ (b : List ℕ). Whole b) is in
+      let said : IsSaid l i second_layout = inr (shows.readable.roots.beside, says at) in
+      (second_layout, said, root_stands second_layout sectors i s (planned_beside l second_layout planned shows.readable.roots.beside) (room second_layout said) at)
 
   pub root_shown : TellsRoot l sectors i
   root_shown = by_sector (sector_at i 0) refl
@@ -87,25 +90,26 @@ module _ (l : Layout) (sectors : ℕ) (windows : List WeakRun) (choices : List (
       by_sector : (s : Sector) → sector_at i 0 ≡ s → TellsRoot l sectors i
       by_sector Damaged is =
           let none : root_at sectors i 0 ≡ None = ap (λ (x : Sector). option_and_then (counted_root sectors) (option_and_then read_root (bytes_of x))) is in
-          let second : IsRootAt l i 4 = ⊎_elim (λ first. absurd (not_damaged (sector_at i 0) first.0 first.1 is)) (λ there. there) shows.readable.roots.some in
+          let second : IsRootAt l second_layout i 4 = ⊎_elim (λ first. absurd (not_damaged (sector_at i 0) first.0 first.1 is)) (λ there. there) shows.readable.roots.some in
           let found = counts 4 second.0 second.1 second.2 (λ says. inr says) in
           record { layout = found.0; said = found.1; root = ap (λ (r : Option Layout). first_whole r (root_at sectors i 4)) none ∙ found.2 }
       by_sector (Whole bytes) is =
           let found = counts 0 bytes is (shows.readable.roots.first bytes is) (λ says. inl says) in
           record { layout = found.0; said = found.1; root = ap (λ (r : Option Layout). first_whole r (root_at sectors i 4)) found.2 }
 
-planned_said : (l : Layout) (i : Image) (k : Layout) → IsSaid l i k → plan l.kind l.sectors l.third l.pages ≡ Ok l → plan k.kind k.sectors k.third k.pages ≡ Ok k
-planned_said l i k (inl is) planned = subst (λ (x : Layout). plan x.kind x.sectors x.third x.pages ≡ Ok x) (sym is) planned
-planned_said l i k (inr is) planned = subst (λ (x : Layout). plan x.kind x.sectors x.third x.pages ≡ Ok x) (sym is.0) (planned_turned l planned)
+planned_said : (l : Layout) (i : Image) (k : Layout) → IsSaid l i k → IsPlanned l → IsPlanned k
+planned_said l i k (inl is) planned = subst (λ (x : Layout). IsPlanned x) (sym is) planned
+planned_said l i k (inr is) planned = planned_beside l k planned is.0
 
-fits_said : (sectors : ℕ) (l : Layout) (i : Image) (k : Layout) → IsSaid l i k → l.sectors ≤ sectors → k.sectors ≤ sectors
-fits_said sectors l i k (inl is) fits = subst (λ (x : Layout). x.sectors ≤ sectors) (sym is) fits
-fits_said sectors l i k (inr is) fits = subst (λ (x : Layout). x.sectors ≤ sectors) (sym is.0) fits
+-- what the pages tell lies in the data area of a layout that is said
+lie_said : (l : Layout) (windows : List WeakRun) (choices : List (List (List ℕ))) (i : Image) (k : Layout) → IsSaid l i k → AllLieIn l choices → ShowsPages l windows choices i → AllLieIn k choices
+lie_said l windows choices i k (inl is) lie shows = subst (λ (x : Layout). AllLieIn x choices) (sym is) lie
+lie_said l windows choices i k (inr is) lie shows = shows.within k is.0 is.1
 
 -- what is said of a worn image was said before
 said_worn : (l : Layout) (i j : Image) (may : Sectors) (k : Layout) → IsWorn may i j → IsSaid l j k → IsSaid l i k
 said_worn l i j may k worn (inl is) = inl is
-said_worn l i j may k worn (inr is) = inr (is.0, says_worn l i j may worn is.1)
+said_worn l i j may k worn (inr is) = inr (is.0, says_worn k i j may worn is.1)
 
 -- ---- the last record's copies stay
 
@@ -155,7 +159,7 @@ module _ (sectors : ℕ) (l : Layout) (windows : List WeakRun) (choices : List (
       shows = shows_worn refused.seen refused.from
 
       by_fault : (f : MountFault) → NotFoundFor sectors refused.seen f → IsExcuse f
-      by_fault NotVolume none = let some = (root_shown l sectors windows choices refused.seen start.planned start.fits shows).root in absurd (cc (some, none))
+      by_fault NotVolume none = let some = (root_shown l sectors windows choices refused.seen start.planned (λ k said. start.fits k (said_worn l old.image refused.seen (open_damage old.windows) k refused.from said)) shows).root in absurd (cc (some, none))
       by_fault NoAnchor none =
           subst (λ (o : Option Anchor). ShowsOne choices (option_and_then (shown_by l refused.seen) o)) none.1 (start.shows.shows refused.seen (weaker old.image refused.seen refused.from))
       by_fault (Lost a b) why = why
@@ -166,16 +170,17 @@ module _ (sectors : ℕ) (l : Layout) (windows : List WeakRun) (choices : List (
     -- the layout that was found is one that the image says
     pub found_said : IsSaid l old.image found
     found_said =
-        let told = root_shown l sectors windows choices is.seen start.planned start.fits (shows_worn is.seen is.from) in
+        let told = root_shown l sectors windows choices is.seen start.planned (λ k said. start.fits k (said_worn l old.image is.seen (open_damage old.windows) k is.from said)) (shows_worn is.seen is.from) in
         said_worn l old.image is.seen (open_damage old.windows) found is.from (subst (IsSaid l is.seen) (same_Some told.layout found (sym told.root ∙ is.root)) told.said)
 
     -- so by it the image shows the same pages
     pub found_starts : ShowsVolume sectors found windows choices old
     found_starts = record {
       planned = planned_said l old.image found found_said start.planned;
-      fits = fits_said sectors l old.image found found_said start.fits;
+      fits = λ k said. start.fits k (said_again l (weak_of windows) old.image found k start.shows.readable.roots found_said said);
       ends = start.ends;
-      shows = said_shows l windows choices old.image found found_said start.shows;
+      lie = lie_said l windows choices old.image found found_said start.lie start.shows;
+      shows = said_shows l windows choices old.image found found_said start.lie start.shows;
     }
 
   -- the log that was found, of the layout that is shown

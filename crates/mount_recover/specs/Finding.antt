@@ -2,7 +2,7 @@
 use Rattle.std.specs.Prelude.{◌≡◌, ◌-◌, ◌<◌, ◌≤◌, ◌^◌, ⊤, ℕ, Ok, Option, Some, None, IsSome}
 use Rattle.volume_layout.specs.declared.layout.Layout.{Layout}
 use Rattle.volume_layout.specs.Kinds.{longest_of}
-use Rattle.volume_layout.specs.Layout.{plan}
+use Rattle.volume_layout.specs.Layout.{IsPlanned}
 use Rattle.sector_disk.specs.Image.{IsWorn, open_damage, sector_at}
 use Rattle.sector_disk.specs.Machine.{Moment}
 use Rattle.fsd_files.specs.Disk.{Image}
@@ -38,7 +38,7 @@ NotFoundFor sectors i (Unsound s) = ⊥
 pub record IsMountable (sectors : ℕ) (l : Layout) (log : LogValue) (longest : ℕ) : Type 0 where
   pub room : l.sectors ≤ sectors
   pub layout : log.layout ≡ l
-  pub planned : plan l.kind l.sectors l.third l.pages ≡ Ok l
+  pub planned : IsPlanned l
   pub epoch : log.anchor.epoch < 2 ^ 32 - 1
   pub short : longest ≤ longest_of l.kind
   pub least : 2 ≤ longest

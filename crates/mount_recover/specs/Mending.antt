@@ -1,7 +1,7 @@
 -- The steps of a mount, where sectors wear.
 use Rattle.std.specs.Prelude.{◌≡◌, ◌≢◌, ◌⊎◌, ⊤, ℕ, zero, suc, ◌+◌, ◌*◌, ◌<◌, ◌≤◌, List, [], get_or, Option, Some, None, Ok, Contains, IsFalse, IfSome, slice_index_or}
 use Rattle.volume_layout.specs.declared.layout.Layout.{Layout}
-use Rattle.volume_layout.specs.Layout.{plan, home_a, home_b}
+use Rattle.volume_layout.specs.Layout.{home_a, home_b, IsPlanned}
 use Rattle.volume_layout.specs.Root.{root_bytes}
 use Rattle.volume_layout.specs.Kinds.{gap_of, longest_of}
 use Rattle.sector_disk.specs.declared.sector.Sector.TheVariants.{Whole}
@@ -101,7 +101,7 @@ pub record IsSeen (l : Layout) (windows : List WeakRun) (choices : List (List (L
 -- that was named.
 pub record IsCompleted (l : Layout) (windows : List WeakRun) (choices : List (List (List ℕ))) (log : LogValue) (now : Moment) : Type 0 where
   pub clean : Image
-  pub planned : plan l.kind l.sectors l.third l.pages ≡ Ok l
+  pub planned : IsPlanned l
   pub apart : IsApart (gap_of l) (weak_of windows)
   pub ends : EndIn now.windows windows
   pub short : IfSome now.windows.next (λ run. run.count ≤ longest_of l.kind)

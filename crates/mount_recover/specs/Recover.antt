@@ -1,7 +1,7 @@
 -- What a mount settles, and what it leaves.
 use Rattle.std.specs.Prelude.{◌≡◌, ⊤, ℕ, ◌+◌, ◌*◌, ◌≤◌, List, [], Ok, IfSome}
 use Rattle.volume_layout.specs.declared.layout.Layout.{Layout}
-use Rattle.volume_layout.specs.Layout.{plan}
+use Rattle.volume_layout.specs.Layout.{IsPlanned}
 use Rattle.fsd_formats.specs.declared.anchor.Anchor.{Anchor}
 use Rattle.fsd_formats.specs.Anchors.{anchor_bytes}
 use Rattle.sector_disk.specs.declared.sector.WeakRun.{WeakRun}
@@ -11,7 +11,7 @@ use Rattle.fsd_log.specs.Scan.{start}
 use Rattle.fsd_files.specs.Disk.{Image, Has}
 use Rattle.fsd_sound.specs.Anchors.{fresh_anchor}
 use Rattle.fsd_sound.specs.Mounting.{EachBears, IsVolume, RefusedFor}
-use Rattle.fsd_sound.specs.Sound.{EndIn, ShowsPages}
+use Rattle.fsd_sound.specs.Sound.{AllLieIn, IsSaid, EndIn, ShowsPages}
 use Rattle.log_thirds.specs.LogValue.{LogValue}
 use Rattle.log_thirds.specs.Append.{IsIndexed}
 use Rattle.fsd_sound.specs.declared.fault.MountFault.{MountFault}
@@ -64,9 +64,11 @@ abbrev pub IsNotUnsound : MountFault → Type 0
 IsNotUnsound (Unsound s) = ⊥
 IsNotUnsound fault = ⊤
 
--- The moment's image shows pages of a volume with this layout, however the present run wears.
+-- The moment's image shows pages of a volume with this layout, however the present run wears. Each layout that a root says
+-- has room, and what the pages tell lies in the data area.
 pub record ShowsVolume (sectors : ℕ) (l : Layout) (windows : List WeakRun) (choices : List (List (List ℕ))) (now : Moment) : Type 0 where
-  pub planned : plan l.kind l.sectors l.third l.pages ≡ Ok l
-  pub fits : l.sectors ≤ sectors
+  pub planned : IsPlanned l
+  pub fits : (k : Layout) → IsSaid l now.image k → k.sectors ≤ sectors
   pub ends : EndIn now.windows windows
+  pub lie : AllLieIn l choices
   pub shows : ShowsPages l windows choices now.image

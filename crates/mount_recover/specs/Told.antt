@@ -1,7 +1,7 @@
 -- What a mount tells up to its name table: where it has settled, where it has failed, and of an image that shows a volume.
 use Rattle.std.specs.Prelude.{◌≡◌, ◌+◌, ◌<◌, ◌≤◌, ◌^◌, ℕ, List, Some, Ok, IfOk, Result, MatchResult}
 use Rattle.volume_layout.specs.declared.layout.Layout.{Layout}
-use Rattle.volume_layout.specs.Layout.{plan}
+use Rattle.volume_layout.specs.Layout.{IsPlanned}
 use Rattle.fsd_formats.specs.declared.anchor.Anchor.{Anchor}
 use Rattle.sector_disk.specs.declared.machine.Machine.{Ghosts}
 use Rattle.sector_disk.specs.declared.sector.WeakRun.{WeakRun}
@@ -24,7 +24,7 @@ module _ {D : Type 0} (M : Ghosts D) (sectors : ℕ) (old new : D) where
   -- It has settled, whatever the image was. What is said of the image is so over an honest machine.
   pub record SettlesVolume (s : SettledVolume) : Type 0 where
     pub room : s.layout.sectors ≤ sectors
-    pub planned : plan s.layout.kind s.layout.sectors s.layout.third s.layout.pages ≡ Ok s.layout
+    pub planned : IsPlanned s.layout
     pub fresh : IsFreshLog s.layout s.log
     pub epoch : s.log.anchor.epoch < 2 ^ 32
     pub counted : M.tells new → (M.ledger new).written ≤ (M.ledger old).written + writes_most s.layout.pages

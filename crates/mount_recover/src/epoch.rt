@@ -1,7 +1,7 @@
 //! The beginning of a new epoch, when all that stands twice is mended.
 ghost use Rattle.std.specs.Prelude.{◌≡◌, ◌+◌, ◌-◌, ◌<◌, ◌≤◌, ◌^◌, ℕ, List, Ok, IsSome, OnOk};
 ghost use Rattle.volume_layout.specs.declared.layout.Layout.{Layout as Plan};
-ghost use Rattle.volume_layout.specs.Layout.{plan};
+ghost use Rattle.volume_layout.specs.Layout.{IsPlanned};
 ghost use Rattle.sector_disk.specs.declared.sector.WeakRun.{WeakRun};
 ghost use Rattle.sector_disk.specs.Calls.{HealsDisk, device_in, failed_at};
 ghost use Rattle.sector_disk.specs.Machine.{Moment as At};
@@ -25,7 +25,7 @@ pub(crate) fn begin_epoch<M: Machine>(m: &mut M, log: &mut Log) -> Result<(), Fa
 
     // Of an image that shows a volume, on which all is mended.
     ensures begins { (l : Plan) (windows : List WeakRun) (choices : List (List (List ℕ))) (first : At) (c : IsCompleted l windows choices log.old first) → M.honest m.new →
-        plan l.kind l.sectors l.third l.pages ≡ Ok l → IsSome first.windows.next → IsMended l windows choices log.old first c (M.now m.old) →
+        IsPlanned l → IsSome first.windows.next → IsMended l windows choices log.old first c (M.now m.old) →
         BeginsEpoch M.Machine l windows choices first (log.old.anchor.epoch + 1) m.old m.new result }
 {
     log.new_epoch(m)?;

@@ -1,7 +1,7 @@
 //! A mount from `healing` on: of the pages that the log has the first homes are written, and then the second, each in
 //! ascending order, and of all else that stands twice what is damaged is written from its twin.
 ghost use Rattle.std.specs.Prelude.{◌≡◌, ◌+◌, ◌*◌, ◌<◌, ◌≤◌, ℕ, List, Ok, Some, None, IfErr, MatchResult, OnOk, slice_index_or};
-ghost use Rattle.volume_layout.specs.Layout.{plan, home_a, home_b};
+ghost use Rattle.volume_layout.specs.Layout.{home_a, home_b, IsPlanned};
 ghost use Rattle.sector_disk.specs.declared.sector.WeakRun.{WeakRun};
 ghost use Rattle.sector_disk.specs.Machine.{Moment as At};
 ghost use Rattle.fsd_log.specs.Images.{last_image};
@@ -32,7 +32,7 @@ fn put_home<M: Machine>(
     place: u32,
     b: &[u8; 512],
 ) -> Result<(), MountFault>
-    requires planned { plan l.now.kind l.now.sectors l.now.third l.now.pages ≡ Ok l.now }
+    requires planned { IsPlanned l.now }
     requires page { page < l.now.pages }
     requires home { IsHomeOf l.now page place }
     requires room { l.now.sectors ≤ (M.report m.old).sectors }
@@ -63,7 +63,7 @@ fn write_logged<M: Machine>(
     place: u32,
 ) -> Result<(), MountFault>
     requires layout { log.now.layout ≡ l.now }
-    requires planned { plan l.now.kind l.now.sectors l.now.third l.now.pages ≡ Ok l.now }
+    requires planned { IsPlanned l.now }
     requires page { page < l.now.pages }
     requires home { IsHomeOf l.now page place }
     requires room { l.now.sectors ≤ (M.report m.old).sectors }
@@ -87,7 +87,7 @@ fn write_logged<M: Machine>(
 // by where these homes begin, when all before that are written.
 fn write_homes<M: Machine>(m: &mut M, l: &Layout, log: &Log, start: u32) -> Result<(), MountFault>
     requires layout { log.now.layout ≡ l.now }
-    requires planned { plan l.now.kind l.now.sectors l.now.third l.now.pages ≡ Ok l.now }
+    requires planned { IsPlanned l.now }
     requires start { IsHomeOf l.now 0 start }
     requires room { l.now.sectors ≤ (M.report m.old).sectors }
 
@@ -107,7 +107,7 @@ fn write_homes<M: Machine>(m: &mut M, l: &Layout, log: &Log, start: u32) -> Resu
 // Writes the one of a page's homes that is damaged from the other, when the pages that the log has are written home,
 // and the others before it are healed.
 fn heal_home<M: Machine>(m: &mut M, l: &Layout, page: u32) -> Result<(), MountFault>
-    requires planned { plan l.now.kind l.now.sectors l.now.third l.now.pages ≡ Ok l.now }
+    requires planned { IsPlanned l.now }
     requires page { page < l.now.pages }
     requires room { l.now.sectors ≤ (M.report m.old).sectors }
 
@@ -131,7 +131,7 @@ fn heal_home<M: Machine>(m: &mut M, l: &Layout, page: u32) -> Result<(), MountFa
 // Writes the one of a page's homes that is damaged from the other, where the log does not have the page.
 fn heal_other<M: Machine>(m: &mut M, l: &Layout, log: &Log, page: u32) -> Result<(), MountFault>
     requires layout { log.now.layout ≡ l.now }
-    requires planned { plan l.now.kind l.now.sectors l.now.third l.now.pages ≡ Ok l.now }
+    requires planned { IsPlanned l.now }
     requires page { page < l.now.pages }
     requires room { l.now.sectors ≤ (M.report m.old).sectors }
 
@@ -153,7 +153,7 @@ fn heal_other<M: Machine>(m: &mut M, l: &Layout, log: &Log, page: u32) -> Result
 // home.
 fn heal_others<M: Machine>(m: &mut M, l: &Layout, log: &Log) -> Result<(), MountFault>
     requires layout { log.now.layout ≡ l.now }
-    requires planned { plan l.now.kind l.now.sectors l.now.third l.now.pages ≡ Ok l.now }
+    requires planned { IsPlanned l.now }
     requires room { l.now.sectors ≤ (M.report m.old).sectors }
 
     ensures mends { MendsCopies M.Machine (AreHomes l.now) m.old m.new result }
@@ -172,7 +172,7 @@ fn heal_others<M: Machine>(m: &mut M, l: &Layout, log: &Log) -> Result<(), Mount
 // Writes the pages that the log has to their first homes, and then to their second, and heals the homes of the others.
 fn mend_pages<M: Machine>(m: &mut M, l: &Layout, log: &Log) -> Result<(), MountFault>
     requires layout { log.now.layout ≡ l.now }
-    requires planned { plan l.now.kind l.now.sectors l.now.third l.now.pages ≡ Ok l.now }
+    requires planned { IsPlanned l.now }
     requires room { l.now.sectors ≤ (M.report m.old).sectors }
 
     ensures mends { MendsCopies M.Machine (AreOfVolume l.now log.now) m.old m.new result }
@@ -191,7 +191,7 @@ fn mend_pages<M: Machine>(m: &mut M, l: &Layout, log: &Log) -> Result<(), MountF
 
 // Writes each root that is damaged or differs, when the pages are mended.
 fn mend_roots<M: Machine>(m: &mut M, l: &Layout) -> Result<(), MountFault>
-    requires planned { plan l.now.kind l.now.sectors l.now.third l.now.pages ≡ Ok l.now }
+    requires planned { IsPlanned l.now }
     requires room { l.now.sectors ≤ (M.report m.old).sectors }
 
     ensures mends { MendsCopies M.Machine AreRoots m.old m.new result }
@@ -211,7 +211,7 @@ fn mend_roots<M: Machine>(m: &mut M, l: &Layout) -> Result<(), MountFault>
 /// Mends the pages, and then the roots.
 pub(crate) fn mend<M: Machine>(m: &mut M, l: &Layout, log: &Log) -> Result<(), MountFault>
     requires layout { log.now.layout ≡ l.now }
-    requires planned { plan l.now.kind l.now.sectors l.now.third l.now.pages ≡ Ok l.now }
+    requires planned { IsPlanned l.now }
     requires room { l.now.sectors ≤ (M.report m.old).sectors }
 
     ensures mends { MendsCopies M.Machine (AreOfAll l.now log.now) m.old m.new result }

@@ -1,6 +1,6 @@
 //! The roots of an image.
 ghost use Rattle.std.specs.Prelude.{◌≡◌, ◌≤◌, Ok, IfOk, IfSome, option_and_then};
-ghost use Rattle.volume_layout.specs.Layout.{plan};
+ghost use Rattle.volume_layout.specs.Layout.{IsPlanned};
 ghost use Rattle.volume_layout.specs.Root.{read_root};
 ghost use Rattle.sector_disk.specs.Calls.{OnlyReads, device_in, failed_at};
 ghost use Rattle.volume_layout.specs.Kinds.{longest_of};
@@ -15,7 +15,7 @@ use volume_layout::{Layout, read_root};
 fn counted(b: &[u8; 512], sectors: u32) -> Option<Layout>
     ensures value { result ≡ option_and_then (counted_root sectors) (read_root b.now) }
     ensures fits { IfSome result (λ l. l.sectors ≤ sectors) }
-    ensures planned { IfSome result (λ l. plan l.kind l.sectors l.third l.pages ≡ Ok l) }
+    ensures planned { IfSome result (λ l. IsPlanned l) }
 {
     let l = read_root(b)?;
     if l.sectors() <= sectors {
@@ -33,7 +33,7 @@ fn root_at<M: Machine>(m: &mut M, sectors: u32, place: u32) -> Result<Option<Lay
     ensures reads { OnlyReads M.Machine (device_in failed_at result) m.old m.new }
     ensures found { IfOk result (λ found. M.honest m.new → found ≡ root_at sectors (M.now m.new).image place) }
     ensures fits { IfOk result (λ found. IfSome found (λ l. l.sectors ≤ sectors)) }
-    ensures planned { IfOk result (λ found. IfSome found (λ l. plan l.kind l.sectors l.third l.pages ≡ Ok l)) }
+    ensures planned { IfOk result (λ found. IfSome found (λ l. IsPlanned l)) }
 {
     if place >= sectors {
         return Ok(None);
@@ -92,7 +92,7 @@ pub(crate) fn find_roots<M: Machine>(m: &mut M, sectors: u32) -> Result<Roots, F
     ensures reads { OnlyReads M.Machine (device_in failed_at result) m.old m.new }
     ensures seen { IfOk result (λ roots. M.honest m.new → SeesRoots sectors roots.first roots.second (M.now m.old) (M.now m.new)) }
     ensures fits { IfOk result (λ roots. IfSome roots.first (λ l. l.sectors ≤ sectors) × IfSome roots.second (λ l. l.sectors ≤ sectors)) }
-    ensures planned { IfOk result (λ roots. IfSome roots.first (λ l. plan l.kind l.sectors l.third l.pages ≡ Ok l) × IfSome roots.second (λ l. plan l.kind l.sectors l.third l.pages ≡ Ok l)) }
+    ensures planned { IfOk result (λ roots. IfSome roots.first (λ l. IsPlanned l) × IfSome roots.second (λ l. IsPlanned l)) }
 {
     let first = root_at(m, sectors, 0)?;
     let second = root_at(m, sectors, 4)?;

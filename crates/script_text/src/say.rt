@@ -117,6 +117,7 @@ fn unplanned_text(fault: LayoutFault) -> LineText
         LayoutFault::BadThird(third) => numbered("refused third ", u64::from(third)),
         LayoutFault::BadPages(pages) => numbered("refused pages ", u64::from(pages)),
         LayoutFault::TooLarge(sectors) => numbered("refused too-large ", u64::from(sectors)),
+        LayoutFault::BadMost(most) => numbered("refused most ", u64::from(most)),
         LayoutFault::TooSmall(need) => numbered("refused too-small ", u64::from(need)),
     }
 }

@@ -3,7 +3,7 @@ use Rattle.std.proofs.Common.{inl, ◌≡◌, ℕ, false, ◌||◌, List, [], re
 use Rattle.std.proofs.lemmas.Bool.{true≢false}
 use Rattle.page_cache.specs.Cache.{is_among}
 use Rattle.volume_layout.specs.declared.layout.Layout.{Layout}
-use Rattle.volume_layout.specs.Layout.{data_start, plan}
+use Rattle.volume_layout.specs.Layout.{data_start, IsPlanned}
 use Rattle.run_table.specs.Space.{contains}
 use Rattle.sector_set.specs.Area.{area}
 use Rattle.shadow_frees.specs.Waits.{Waits, waits_in}
@@ -50,7 +50,7 @@ module _ (l : Layout) where
       down = None;
     }
 
-    pub whole_assembled : plan l.kind l.sectors l.third l.pages ≡ Ok l → log.layout ≡ l → IsOpened l o → IsWholeVolume (assembled l log o)
+    pub whole_assembled : IsPlanned l → log.layout ≡ l → IsOpened l o → IsWholeVolume (assembled l log o)
     whole_assembled planned layout opened = record {
       planned = planned;
       map = opened.map;

@@ -7,7 +7,7 @@ use Rattle.sector_disk.proofs.Wear.{worn_refl}
 use Rattle.fsd_formats.specs.declared.entry.Entry.{Entry}
 use Rattle.fsd_table.specs.Breaks.{Breaks}
 use Rattle.volume_layout.specs.declared.layout.Layout.{Layout}
-use Rattle.volume_layout.specs.Layout.{plan}
+use Rattle.volume_layout.specs.Layout.{IsPlanned}
 use Rattle.sector_disk.specs.Image.{IsCalm, open_damage}
 use Rattle.sector_disk.specs.Machine.{Moment}
 use Rattle.fsd_files.specs.Disk.{Image}
@@ -56,7 +56,7 @@ module _ (sectors : ℕ) (l : Layout) (log : LogValue) (i : Image) (at : Moment)
     no_table_shown Memory fails = tt
     no_table_shown other fails = absurd fails
 
-    module _ (planned : plan l.kind l.sectors l.third l.pages ≡ Ok l) where
+    module _ (planned : IsPlanned l) where
       table_shown : (v : VolumeValue) → IsAssembled l log v → IsTableOf l (home_pages l at.image) (opened_of v) → MountsShown state IsMemoryOf sectors i v
       table_shown v a t =
           let pages = home_pages l at.image in
@@ -73,7 +73,7 @@ module _ (sectors : ℕ) (l : Layout) (log : LogValue) (i : Image) (at : Moment)
             whole = subst (λ (k : Layout). (page : ℕ) → Breaks k pages page → ⊥) same t.whole;
           }
 
-module _ (sectors : ℕ) (l : Layout) (planned : plan l.kind l.sectors l.third l.pages ≡ Ok l) (log : LogValue) (i : Image) (at : Moment) (is : IsSettled sectors i l log) (stand : StandAsShown l is.anchor i at.image) (calm : IsCalm at.windows) where
+module _ (sectors : ℕ) (l : Layout) (planned : IsPlanned l) (log : LogValue) (i : Image) (at : Moment) (is : IsSettled sectors i l log) (stand : StandAsShown l is.anchor i at.image) (calm : IsCalm at.windows) where
   pub mounts_calm : (r : Result VolumeValue MountFault) → IfOk r (IsAssembled l log) → KnowsHomes l at → OpensKnown l at r → MountsCalm state IsMemoryOf sectors i r
   mounts_calm (Ok v) a knows opens = table_shown sectors l log i at is stand knows calm planned v a opens
   mounts_calm (Err fault) a knows opens = no_table_shown sectors l log i at is stand knows calm fault opens

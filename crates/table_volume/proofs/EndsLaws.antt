@@ -11,7 +11,7 @@ use Rattle.sector_disk.proofs.Wear.{worn_refl}
 use Rattle.fsd_files.specs.Files.{Change}
 use Rattle.fsd_sound.specs.Choices.{TellsChoices}
 use Rattle.fsd_sound.specs.Mounted.{SameData}
-use Rattle.fsd_sound.specs.Sound.{weak_of}
+use Rattle.fsd_sound.specs.Sound.{IsSound, weak_of}
 use Rattle.fsd_sound.specs.Windows.{IsNamedSince}
 use Rattle.fsd_sound.specs.declared.fault.MountFault.{MountFault}
 use Rattle.fsd_sound.specs.declared.fault.MountFault.TheVariants.{Device, Memory, WornOut}
@@ -26,7 +26,7 @@ use Rattle.table_volume.specs.Mounting.{IsAssembled, OpensKnown}
 use Rattle.volume_laws.specs.State.{IsMemoryOf, state}
 use Rattle.volume_laws.specs.Volume.{VolumeValue}
 use Rattle.table_volume.proofs.EpochLaws.{at_last_epoch}
-use Rattle.volume_laws.proofs.MomentLaws.{before_of, sound_before}
+use Rattle.volume_laws.proofs.MomentLaws.{shown_before, sound_by_one, sound_before}
 use Rattle.table_volume.proofs.SettledLaws.{count, files_settled, known_new, knows_settled, mounts_new, settled_new, since_settled}
 
 -- ---- moments of which two things are known
@@ -73,18 +73,19 @@ excuses_of sectors old other excuse refused = absurd excuse
 
 module _ (sectors : ℕ) (l : Layout) (windows : List WeakRun) (h : List Change) (f : ℕ) (old : Moment) (begun : IsSoundAt sectors l windows h f old) (lists : TellsChoices l windows h f old.image) where
   moment_before : (left : Moment) → Replays l windows lists.choices old left → IsUnturned old left → SoundBefore l windows h f old left
-  moment_before left replays still =
-      let before = staged replays.stage in
-      record {
-        present = still;
-        said = replays.said;
-        sound = sound_before sectors l windows h f old begun lists left.image before.shows before.closes (data_stays l (weak_of windows) old left replays.rest);
-        writes = replays.rest;
-      }
+  moment_before left replays still = record {
+    present = still;
+    said = replays.said;
+    sound = staged replays.stage;
+    writes = replays.rest;
+  }
     where
-      staged : IsBefore l windows lists.choices old left ⊎ IsBehindSettle l windows lists.choices left → IsBefore l windows lists.choices old left
-      staged (inl before) = before
-      staged (inr is) = before_of l windows lists.choices old left begun.ends still is
+      same_data : SameData l (weak_of windows) old.image left.image
+      same_data = data_stays l (weak_of windows) old left replays.rest
+
+      staged : IsBefore l windows lists.choices old left ⊎ IsBehindSettle l windows lists.choices left → IsSound l windows h f left.image
+      staged (inl before) = sound_before sectors l windows h f old begun lists left.image before.shows before.closes same_data
+      staged (inr is) = sound_by_one sectors l windows h f old begun lists is.pages is.chosen left.image (shown_before l windows lists.choices old left begun.ends still is) is.opened same_data
 
   module _ {D : Type 0} (M : MachineGhosts D) (a b : D) where
     -- it failed before it settled

@@ -2,7 +2,7 @@
 use Rattle.std.proofs.Common.{◌≡◌, ◌⊎◌, inl, inr, ℕ, ◌<◌, ◌≤◌, Bool, true, false, not, ◌&&◌, ◌||◌, nat_le, nat_lt, List, [], length, Ok, refl, sym, ap, subst, ◌∙◌, arith}
 use Rattle.std.proofs.lemmas.Bool.{and_from, and_parts, cases_Bool, le-leb, leb-true, lt-ltb, ltb-true, true≢false}
 use Rattle.volume_layout.specs.declared.layout.Layout.{Layout}
-use Rattle.volume_layout.specs.Layout.{data_start, is_data, plan}
+use Rattle.volume_layout.specs.Layout.{data_start, is_data, IsPlanned}
 use Rattle.run_table.specs.Space.{contains, runs_of, where_free}
 use Rattle.sector_set.specs.Area.{Area}
 use Rattle.sector_set.proofs.AreaLaws.{free_within}
@@ -40,7 +40,7 @@ in_data l s low high = and_from (nat_le (data_start l) s) (nat_lt s l.sectors) (
 
 -- ---- the volume
 
-module _ (l : Layout) (planned : plan l.kind l.sectors l.third l.pages ≡ Ok l) (log : LogValue) (v : VolumeValue) (a : IsAssembled l log v) (pages : List (List ℕ)) (t : IsTableOf l pages (opened_of v)) (files : Files) (count : length files ≡ length t.telling.entries) where
+module _ (l : Layout) (planned : IsPlanned l) (log : LogValue) (v : VolumeValue) (a : IsAssembled l log v) (pages : List (List ℕ)) (t : IsTableOf l pages (opened_of v)) (files : Files) (count : length files ≡ length t.telling.entries) where
   taken : ℕ → Bool
   taken s = is_in (plans_of t.telling.entries) s
 

@@ -4,7 +4,7 @@ use Rattle.std.specs.Prelude.{IfOk, IfSome, ◌==◌}
 use Rattle.std.proofs.Math.Bool.{or-false}
 use Rattle.std.proofs.lemmas.List.{ext_get_or, get_or-replicate, length-replicate}
 use Rattle.volume_layout.specs.declared.layout.Layout.{Layout}
-use Rattle.volume_layout.specs.Layout.{data_start, plan}
+use Rattle.volume_layout.specs.Layout.{data_start, IsPlanned}
 use Rattle.run_table.specs.Space.{contains, runs_of, where_free}
 use Rattle.sector_set.specs.Area.{Area}
 use Rattle.sector_set.proofs.FreeLaws.{where_same}
@@ -87,10 +87,10 @@ module _ (l : Layout) (log : LogValue) (v : VolumeValue) (a : IsAssembled l log 
   same_layout : v.layout ≡ l
   same_layout = ap (λ (x : VolumeValue). x.layout) a.is
 
-  pub opens_new : {D : Type 0} (M : Ghosts D) (sectors : ℕ) (old new : D) → l.sectors ≤ sectors → plan l.kind l.sectors l.third l.pages ≡ Ok l → (M.tells new → CountsMount (state v) (M.ledger old) (M.ledger new)) → MountOpens M sectors (state v) old new
+  pub opens_new : {D : Type 0} (M : Ghosts D) (sectors : ℕ) (old new : D) → l.sectors ≤ sectors → IsPlanned l → (M.tells new → CountsMount (state v) (M.ledger old) (M.ledger new)) → MountOpens M sectors (state v) old new
   opens_new M sectors old new room planned counted = record {
     room = subst (λ (k : Layout). k.sectors ≤ sectors) (sym same_layout) room;
-    planned = subst (λ (k : Layout). plan k.kind k.sectors k.third k.pages ≡ Ok k) (sym same_layout) planned;
+    planned = subst (λ (k : Layout). IsPlanned k) (sym same_layout) planned;
     fresh = is_new;
     counted = counted;
   }

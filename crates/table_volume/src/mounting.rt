@@ -1,6 +1,6 @@
 //! The mount of a volume.
 ghost use Rattle.std.specs.Prelude.{◌≡◌, ◌≤◌, ◌<◌, Ok, IfOk, IfErr};
-ghost use Rattle.volume_layout.specs.Layout.{plan};
+ghost use Rattle.volume_layout.specs.Layout.{IsPlanned};
 ghost use Rattle.sector_disk.specs.Calls.{OnlyReads, device_in};
 ghost use Rattle.fsd_sound.specs.Lost.{AreHomes, LostIn};
 ghost use Rattle.fsd_sound.specs.Mounting.{device_of_mount};
@@ -26,7 +26,7 @@ pub(crate) fn open_settled<M: Machine>(
     m: &mut M,
     settled: SettledVolume,
 ) -> Result<Volume, MountFault>
-    requires planned { plan settled.layout.kind settled.layout.sectors settled.layout.third settled.layout.pages ≡ Ok settled.layout }
+    requires planned { IsPlanned settled.layout }
     requires sectors { settled.layout.sectors ≤ (M.report m.old).sectors }
     requires log { IsFreshLog settled.layout settled.log }
     ensures reads { OnlyReads M.Machine (device_in device_of_mount result) m.old m.new }
@@ -41,7 +41,7 @@ pub(crate) fn open_settled<M: Machine>(
 
 // The volume with what was opened; nothing waits.
 fn assemble(alloc: Global, settled: SettledVolume, opened: Opened) -> Result<Volume, MountFault>
-    requires planned { plan settled.layout.kind settled.layout.sectors settled.layout.third settled.layout.pages ≡ Ok settled.layout }
+    requires planned { IsPlanned settled.layout }
     requires log { IsFreshLog settled.layout settled.log }
     requires opened { IsOpened settled.layout opened }
     ensures assembled { IfOk result (IsAssembled settled.layout settled.log) }

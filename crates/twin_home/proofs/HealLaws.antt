@@ -140,6 +140,15 @@ module _ (l : Layout) (bytes : List ℕ) (is : bytes ≡ root_bytes l) where
         (λ h left torn. torn_second (M.now x) (M.now y) left (subst (λ (s : ℕ). Holds (M.now x) (stand (M.now x).image s bytes (length bytes / 512)) (M.now y)) zero (done (second.trust.honest h))) (subst (λ (s : ℕ). Tears s bytes (M.now y) left) four torn))
     both_written {a = a} {b = b} first done second (inr four) pair in_order = absurd (omega (arith, four, pair, in_order))
 
+-- one write behind the other, where both are done
+pub both_done : {T E H K : Type 0} (root bytes : List ℕ) (old mid new : Moment) (r : Result T E) → bytes ≡ root → length bytes / 512 ≡ 1 → (K → Holds old (stand old.image 0 bytes (length bytes / 512)) mid) → (H → K)
+    → OnOk r (H → Holds mid (stand mid.image 4 bytes (length bytes / 512)) new) → OnOk r (H → Holds old (stand (stand old.image 0 root 1) 4 root 1) new)
+both_done root bytes old mid new (Err e) same one first trust second = tt
+both_done root bytes old mid new (Ok x) same one first trust second = λ h.
+    subst (λ (b : List ℕ). Holds old (stand (stand old.image 0 b 1) 4 b 1) new) same
+    (subst (λ (n : ℕ). Holds old (stand (stand old.image 0 bytes n) 4 bytes n) new) one
+    (holds_on old mid new (stand old.image 0 bytes (length bytes / 512)) 4 bytes (length bytes / 512) (first (trust h)) (second h)))
+
 holds_both : (old mid left : Moment) (bytes : List ℕ) (first second : ℕ) → Wears old mid → Holds mid (stand (stand mid.image 0 bytes first) 4 bytes second) left → Holds old (stand (stand old.image 0 bytes first) 4 bytes second) left
 holds_both old mid left bytes first second wears holds =
     let may = open_damage old.windows in

@@ -1,6 +1,6 @@
 //! All that stands twice outside the log, healed.
 ghost use Rattle.std.specs.Prelude.{◌≡◌, ◌≤◌, Ok, IfOk, IfErr, OnOk};
-ghost use Rattle.volume_layout.specs.Layout.{plan};
+ghost use Rattle.volume_layout.specs.Layout.{IsPlanned};
 ghost use Rattle.sector_disk.specs.Calls.{WritesDisk, device_in, load_failed_at};
 ghost use Rattle.sector_disk.specs.Damage.{LostCause};
 ghost use Rattle.sector_disk.specs.Machine.{wrote};
@@ -34,7 +34,7 @@ pub fn heal_pages<M: Machine>(m: &mut M, l: &Layout) -> Result<u32, LoadFault>
 /// Writes each copy of the root, of the anchor and of the pages at home that alone is damaged, from its twin, and answers
 /// how many it wrote. It stops at the first two copies that are both damaged.
 pub fn heal_twins<M: Machine>(m: &mut M, l: &Layout) -> Result<u32, LoadFault>
-    requires planned { plan l.now.kind l.now.sectors l.now.third l.now.pages ≡ Ok l.now }
+    requires planned { IsPlanned l.now }
     requires room { l.now.sectors ≤ (M.report m.old).sectors }
 
     ensures writes { WritesDisk M.Machine (device_in load_failed_at result) (HealsTwins l.now) m.old m.new }

@@ -1,7 +1,7 @@
 -- What a mount finds, why it is refused, and what it leaves.
 use Rattle.std.specs.Prelude.{◌≡◌, ◌⊎◌, ⊤, ℕ, ◌+◌, ◌*◌, ◌<◌, ◌≤◌, Bool, ◌||◌, List, [], ◌∷◌, ◌++◌, take, Some, None, IfSome, IfOk, IfErr, Result, Ok, Err}
 use Rattle.volume_layout.specs.declared.layout.Layout.{Layout}
-use Rattle.volume_layout.specs.Layout.{plan}
+use Rattle.volume_layout.specs.Layout.{home_a, IsPlanned}
 use Rattle.fsd_formats.specs.declared.anchor.Anchor.{Anchor}
 use Rattle.fsd_formats.specs.Anchors.{anchor_bytes}
 use Rattle.sector_disk.specs.declared.machine.Machine.{Ghosts}
@@ -37,7 +37,7 @@ CountsMount s old new = (old.written ≤ new.written) × (new.written ≤ old.wr
 -- A volume just mounted lies on so many sectors, as its layout is planned, and nothing waits.
 pub record MountOpens {D : Type 0} (M : Ghosts D) (sectors : ℕ) (s : State) (old new : D) : Type 0 where
   pub room : s.layout.sectors ≤ sectors
-  pub planned : plan s.layout.kind s.layout.sectors s.layout.third s.layout.pages ≡ Ok s.layout
+  pub planned : IsPlanned s.layout
   pub fresh : IsNew s
   pub counted : M.tells new → CountsMount s (M.ledger old) (M.ledger new)
 
@@ -146,10 +146,10 @@ module _ {S : Type 0} (state : S → State) (has : S → Mounted → List Placed
 
 -- ---- the mount of a sound disk
 
--- The machine's disk is sound.
+-- The machine's disk is sound, and each layout that a root says has room.
 pub record IsSoundAt (sectors : ℕ) (l : Layout) (windows : List WeakRun) (h : List Change) (f : ℕ) (now : Moment) : Type 0 where
-  pub planned : plan l.kind l.sectors l.third l.pages ≡ Ok l
-  pub fits : l.sectors ≤ sectors
+  pub planned : IsPlanned l
+  pub fits : (k : Layout) → IsSaid l now.image k → k.sectors ≤ sectors
   pub ends : EndIn now.windows windows
   pub sound : IsSound l windows h f now.image
 
@@ -238,6 +238,6 @@ module _ {S : Type 0} (state : S → State) (has : S → Mounted → List Placed
   abbrev pub MountsAs : Layout → List WeakRun → List Change → ℕ → (Past : ℕ → Moment → Type 0) → (began : ℕ) → ((Moment → Type 0) → Type 0) → (old new : Moment) → Result S MountFault → Type 0
   MountsAs l windows h f Past began Only old new result = EndsBefore l windows h f Only old new result ⊎ EndsSettled l windows h f Past began Only old new result
 
-  -- so it is by the layout that the mount has read: this one, or it turned, where a root says so
+  -- so it is by the layout that the mount has read: this one, or one beside it, where a root says so
   abbrev pub MountsSound : Layout → List WeakRun → List Change → ℕ → (Past : ℕ → Moment → Type 0) → (began : ℕ) → ((Moment → Type 0) → Type 0) → (old new : Moment) → Result S MountFault → Type 0
   MountsSound l windows h f Past began Only old new result = (layout : Layout) × IsSaid l old.image layout × MountsAs layout windows h f Past began Only old new result

@@ -3,7 +3,7 @@ use Rattle.std.proofs.Common.{◌≡◌, inl, ℕ, ◌+◌, ◌*◌, ◌<◌, �
 use Rattle.std.specs.Prelude.{IfSome, Result, Err, OnOk}
 use Rattle.volume_layout.specs.declared.layout.Layout.{Layout}
 use Rattle.volume_layout.specs.Kinds.{longest_of}
-use Rattle.volume_layout.specs.Layout.{plan, home_a, home_b, InLog}
+use Rattle.volume_layout.specs.Layout.{home_a, home_b, InLog, IsPlanned}
 use Rattle.volume_layout.proofs.RootLaws.{planned_bounds}
 use Rattle.sector_disk.specs.declared.sector.Sector.{Sector}
 use Rattle.sector_disk.specs.declared.sector.Sector.TheVariants.{Whole, Damaged}
@@ -17,14 +17,14 @@ use Rattle.volume_format.specs.Formatting.{IsNewImage, Formats, with_pages, with
 use Rattle.version_data.proofs.LayLaws.{holds_then, monotone_lay}
 use Rattle.volume_format.proofs.HeadLaws.{monotone_head, length-head, head_behind, head_at, head_blank}
 
-module _ (l : Layout) (planned : plan l.kind l.sectors l.third l.pages ≡ Ok l) where
+module _ (l : Layout) (planned : IsPlanned l) where
   pub fits : 16 + 3 * l.third + 2 * l.pages + 72 ≤ l.sectors
   fits = let bounds = planned_bounds l planned in let least = bounds.sectors_least in omega (arith, least)
 
   pub some_page : 0 < l.pages
   some_page = let bounds = planned_bounds l planned in let least = bounds.pages_least in omega (arith, least)
 
-module _ (l : Layout) (planned : plan l.kind l.sectors l.third l.pages ≡ Ok l) (i : List Sector) (long : l.sectors ≤ length i) where
+module _ (l : Layout) (planned : IsPlanned l) (i : List Sector) (long : l.sectors ≤ length i) where
   abbrev first_homes : List Sector
   first_homes = with_pages i (home_a l 0) l.pages
 
@@ -85,7 +85,7 @@ windows_are w present next p n =
     let made : Option WeakRun → Option WeakRun → Windows = λ x y. record { present = x; next = y } in
     ap (λ (x : Option WeakRun). made x w.next) p ∙ ap (λ (y : Option WeakRun). made present y) n
 
-module _ (l : Layout) (planned : plan l.kind l.sectors l.third l.pages ≡ Ok l) (old opened mid new : Moment) (long : l.sectors ≤ length old.image)
+module _ (l : Layout) (planned : IsPlanned l) (old opened mid new : Moment) (long : l.sectors ≤ length old.image)
     (fresh : IsNewImage old) (named : Names (longest_of l.kind) old opened) (holds : Holds opened (with_volume l opened.image) mid) (settles : Settles mid new) where
   in_window : (run : WeakRun) → opened.windows.next ≡ Some run → Formats l old new
   in_window run next =

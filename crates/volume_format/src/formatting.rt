@@ -4,7 +4,7 @@ ghost use Rattle.sector_disk.specs.Calls.{HealsDisk, WritesDisk, device_in, fail
 ghost use Rattle.sector_disk.specs.Image.{with_sector};
 ghost use Rattle.sector_disk.specs.Machine.{Holds, IsSynced, wrote};
 ghost use Rattle.sector_disk.specs.Written.{WroteMost};
-ghost use Rattle.volume_layout.specs.Layout.{plan};
+ghost use Rattle.volume_layout.specs.Layout.{IsPlanned};
 ghost use Rattle.version_data.specs.Writing.{WritesIn};
 ghost use Rattle.volume_format.specs.Formatting.{Formats, IsNewImage, KeepsOthers, format_count, format_writes, head_sector, row, with_head, with_pages, with_volume};
 
@@ -52,7 +52,7 @@ fn write_volume<M: Machine>(m: &mut M, l: &Layout) -> Result<(), Failed>
     ensures counted { OnOk result (M.tells m.new → M.ledger m.new ≡ wrote (M.ledger m.old) (format_count l.now)) }
     ensures counted_err { OnErr result (M.tells m.new → WroteMost (format_count l.now) (M.ledger m.old) (M.ledger m.new)) }
     ensures done { OnOk result (M.honest m.new → Holds (M.now m.old) (with_volume l.now (M.now m.old).image) (M.now m.new)) }
-    ensures planned { plan l.now.kind l.now.sectors l.now.third l.now.pages ≡ Ok l.now }
+    ensures planned { IsPlanned l.now }
 {
     let pages = l.pages();
     write_pages(m, l.home_a(0), pages)?;

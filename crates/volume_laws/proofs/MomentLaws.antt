@@ -9,7 +9,6 @@ use Rattle.volume_layout.specs.declared.layout.Layout.{Layout}
 use Rattle.volume_layout.specs.Kinds.{longest_of}
 use Rattle.volume_layout.specs.Layout.{turned}
 use Rattle.volume_layout.proofs.RegionLaws.{regions_apart}
-use Rattle.volume_layout.proofs.TurnedLaws.{planned_turned}
 use Rattle.sector_disk.specs.declared.sector.Sector.{Sector}
 use Rattle.sector_disk.specs.declared.sector.WeakRun.{WeakRun}
 use Rattle.sector_disk.specs.Image.{AllWorn, IsWorn, in_weak_run, weak as in_window}
@@ -23,13 +22,14 @@ use Rattle.fsd_files.proofs.WearLaws.{each_of_both}
 use Rattle.fsd_sound.specs.Choices.{TellsChoices}
 use Rattle.fsd_sound.specs.Mounted.{SameData}
 use Rattle.fsd_sound.specs.Shown.{shown}
-use Rattle.fsd_sound.specs.Sound.{EndIn, HasHomes, HasLog, HasRoots, IsEither, IsPrefixOf, IsSaid, IsSound, LogsNothing, ShowsOne, ShowsPages, Tells, weak_of}
+use Rattle.fsd_sound.specs.Sound.{AllLieIn, EndIn, HasHomes, HasLog, HasRoots, IsEither, IsPrefixOf, IsReadable, IsSaid, IsSound, LogsNothing, ShowsOne, ShowsPages, Tells, weak_of}
 use Rattle.fsd_sound.proofs.ChoiceLaws.{shows_choices}
 use Rattle.fsd_sound.proofs.MountedLaws.{describes_data, one_of}
 use Rattle.fsd_sound.specs.Saved.{ClosesNone, IsOpen, SavesPages}
-use Rattle.fsd_sound.proofs.SavedLaws.{open_closes, open_saves, saves_on, saves_turned, worn_reads}
+use Rattle.fsd_sound.proofs.SavedLaws.{open_saves, saves_on, worn_reads}
 use Rattle.fsd_sound.proofs.SoundLaws.{sound_from_pages, weak_within_hurt}
-use Rattle.fsd_sound.proofs.TurnedLaws.{said_shows, said_sound}
+use Rattle.fsd_sound.proofs.BesideLaws.{beside_saves, lies_own, said_shows, said_sound, tells_in}
+use Rattle.fsd_sound.proofs.SaidLaws.{planned_beside, said_again}
 use Rattle.fsd_sound.proofs.WindowLaws.{last_snoc}
 use Rattle.mount_recover.specs.Recover.{ShowsVolume}
 use Rattle.mount_recover.specs.Replay.{IsBehindSettle, IsBefore}
@@ -60,73 +60,68 @@ in_more_runs windows run s h = list_any-append (λ (r : WeakRun). in_weak_run r 
 
 -- ---- in the same window
 
-shows_among : (choices : List (List (List ℕ))) (pages : List (List ℕ)) (o : Option (List (List ℕ))) → Contains choices pages → ShowsOne (pages ∷ []) o → ShowsOne choices o
-shows_among choices pages None chosen shows = absurd shows
-shows_among choices pages (Some ps) chosen shows = one_of (Contains choices) pages ps chosen shows
-
 -- windows that end alike wear alike
-either_alike : (l : Layout) (now then : List WeakRun) (i : Image) → last_or None now ≡ last_or None then → IsEither l now i → IsEither l then i
-either_alike l now then i e is = record {
-  borne = subst (λ (o : Option WeakRun). IfSome o (λ run. run.count ≤ longest_of (turned l).kind)) e is.borne;
-  empty = subst (λ (o : Option WeakRun). AllWorn (in_window o None) (LogsNothing l) i) e is.empty;
+either_alike : (l k : Layout) (now then : List WeakRun) (i : Image) → last_or None now ≡ last_or None then → IsEither l k now i → IsEither l k then i
+either_alike l k now then i e is = record {
+  borne = subst (λ (o : Option WeakRun). IfSome o (λ run. run.count ≤ longest_of k.kind)) e is.borne;
+  fits = is.fits;
+  opened = is.opened;
+  empty = λ same. subst (λ (o : Option WeakRun). AllWorn (in_window o None) (LogsNothing l) i) e (is.empty same);
 }
 
-shows_alike : (l : Layout) (now then : List WeakRun) (choices : List (List (List ℕ))) (pages : List (List ℕ)) (i : Image) → last_or None now ≡ last_or None then → Contains choices pages → ShowsPages l now (pages ∷ []) i → ShowsPages l then choices i
-shows_alike l now then choices pages i e chosen is = record {
+shows_alike : (l : Layout) (now then : List WeakRun) (pages : List (List ℕ)) (i : Image) → last_or None now ≡ last_or None then → ShowsPages l now (pages ∷ []) i → ShowsPages l then (pages ∷ []) i
+shows_alike l now then pages i e is = record {
   readable = record {
     borne = subst (λ (o : Option WeakRun). IfSome o (λ run. run.count ≤ longest_of l.kind)) e is.readable.borne;
     roots = subst (λ (o : Option WeakRun). HasRoots l (in_window o None) i) e is.readable.roots;
-    either = λ says. either_alike l now then i e (is.readable.either says);
+    either = λ k beside says. either_alike l k now then i e (is.readable.either k beside says);
     anchors = is.readable.anchors;
     log = subst (λ (o : Option WeakRun). (j : Image) → IsWorn (in_window o None) i j → HasLog l (in_window o None) j) e is.readable.log;
     homes = subst (λ (o : Option WeakRun). (j : Image) → IsWorn (in_window o None) i j → HasHomes l j) e is.readable.homes;
   };
-  shows = λ j worn. shows_among choices pages (shown l j) chosen (subst (λ (o : Option WeakRun). (k : Image) → IsWorn (in_window o None) i k → ShowsOne (pages ∷ []) (shown l k)) e is.shows j worn);
+  within = is.within;
+  shows = subst (λ (o : Option WeakRun). (k : Image) → IsWorn (in_window o None) i k → ShowsOne (pages ∷ []) (shown l k)) e is.shows;
 }
 
--- a moment that has the present window of before is one of before it settles
-pub before_of : (l : Layout) (windows : List WeakRun) (choices : List (List (List ℕ))) (old left : Moment) → EndIn old.windows windows → left.windows.present ≡ old.windows.present → IsBehindSettle l windows choices left → IsBefore l windows choices old left
-before_of l windows choices old left ends still is =
+-- a moment that has the present window of before shows its page list in the windows of before
+pub shown_before : (l : Layout) (windows : List WeakRun) (choices : List (List (List ℕ))) (old left : Moment) → EndIn old.windows windows → left.windows.present ≡ old.windows.present → (is : IsBehindSettle l windows choices left) → ShowsPages l windows (is.pages ∷ []) left.image
+shown_before l windows choices old left ends still is =
     let present : left.windows.present ≡ Some is.run = ap (λ w. w.present) is.settled in
-    record {
-      present = still;
-      shows = shows_alike l (windows ++ is.run ∷ []) windows choices is.pages left.image (last_snoc None windows is.run ∙ sym present ∙ still ∙ sym ends.last) is.chosen is.shows;
-      closes = open_closes old.image left.image is.opened;
-    }
+    shows_alike l (windows ++ is.run ∷ []) windows is.pages left.image (last_snoc None windows is.run ∙ sym present ∙ still ∙ sym ends.last) is.shows
 
 -- ---- by the layout that the image says
 
-tells_turned : (l : Layout) (hurt : Sectors) (i : Image) (h : List Change) (f : ℕ) (o : Option Telling) → Tells l hurt i h f o → Tells (turned l) hurt i h f o
-tells_turned l hurt i h f None tells = tells
-tells_turned l hurt i h f (Some t) tells = (tells.0, tells.1, record { lists = tells.2.lists; apart = tells.2.apart; kept = tells.2.kept })
+-- each list that a sound disk may show lies in the data area
+pub all_lie : (l : Layout) (windows : List WeakRun) (h : List Change) (f : ℕ) (i : Image) (lists : TellsChoices l windows h f i) → AllLieIn l lists.choices
+all_lie l windows h f i lists pages one = lies_own l (in_runs windows) i h f (told_in pages) (lists.tells pages one)
 
 module _ (l : Layout) (i : Image) (layout : Layout) where
-  pub said_tells : IsSaid l i layout → (hurt : Sectors) (h : List Change) (f : ℕ) (o : Option Telling) → Tells l hurt i h f o → Tells layout hurt i h f o
-  said_tells (inl is) hurt h f o tells = subst (λ (k : Layout). Tells k hurt i h f o) (sym is) tells
-  said_tells (inr is) hurt h f o tells = subst (λ (k : Layout). Tells k hurt i h f o) (sym is.0) (tells_turned l hurt i h f o tells)
+  said_tells : (windows : List WeakRun) (h : List Change) (f : ℕ) (lists : TellsChoices l windows h f i) → IsSaid l i layout → (pages : List (List ℕ)) → Contains lists.choices pages → Tells layout (in_runs windows) i h f (told_in pages)
+  said_tells windows h f lists (inl is) pages one = subst (λ (k : Layout). Tells k (in_runs windows) i h f (told_in pages)) (sym is) (lists.tells pages one)
+  said_tells windows h f lists (inr is) pages one = tells_in l layout (in_runs windows) i h f (told_in pages) (lists.tells pages one) (lists.shows.within layout is.0 is.1 pages one)
 
-  pub said_saves : IsSaid l i layout → (pages : List (List ℕ)) → SavesPages l i pages → SavesPages layout i pages
-  said_saves (inl is) pages saves = subst (λ (k : Layout). SavesPages k i pages) (sym is) saves
-  said_saves (inr is) pages saves = subst (λ (k : Layout). SavesPages k i pages) (sym is.0) (saves_turned l i pages saves)
+  pub said_saves : IsSaid l i layout → (windows : List WeakRun) → IsReadable l windows i → (pages : List (List ℕ)) → SavesPages l i pages → SavesPages layout i pages
+  said_saves (inl is) windows readable pages saves = subst (λ (k : Layout). SavesPages k i pages) (sym is) saves
+  said_saves (inr is) windows readable pages saves = beside_saves l layout windows i (readable.either layout is.0 is.1) is.0 pages saves
 
   -- it shows the same page lists
   abbrev pub said_lists : IsSaid l i layout → (windows : List WeakRun) (h : List Change) (f : ℕ) → TellsChoices l windows h f i → TellsChoices layout windows h f i
   said_lists said windows h f lists = record {
     choices = lists.choices;
-    shows = said_shows l windows lists.choices i layout said lists.shows;
-    tells = λ pages one. said_tells said (in_runs windows) h f (told_in pages) (lists.tells pages one);
-    saved = λ pages one. said_saves said pages (lists.saved pages one);
+    shows = said_shows l windows lists.choices i layout said (all_lie l windows h f i lists) lists.shows;
+    tells = said_tells windows h f lists said;
+    saved = λ pages one. said_saves said windows lists.shows.readable pages (lists.saved pages one);
   }
 
 -- and is as sound
 pub said_at : (sectors : ℕ) (l : Layout) (windows : List WeakRun) (h : List Change) (f : ℕ) (old : Moment) (layout : Layout) → IsSaid l old.image layout → IsSoundAt sectors l windows h f old → IsSoundAt sectors layout windows h f old
 said_at sectors l windows h f old layout (inl is) begun = subst (λ (k : Layout). IsSoundAt sectors k windows h f old) (sym is) begun
-said_at sectors l windows h f old layout (inr is) begun = subst (λ (k : Layout). IsSoundAt sectors k windows h f old) (sym is.0) (record {
-  planned = planned_turned l begun.planned;
-  fits = begun.fits;
+said_at sectors l windows h f old layout (inr is) begun = record {
+  planned = planned_beside l layout begun.planned is.0;
+  fits = λ k said. begun.fits k (said_again l (weak_of windows) old.image layout k begun.sound.readable.roots (inr is) said);
   ends = begun.ends;
-  sound = said_sound l windows h f old.image (turned l) (inr (refl, is.1)) begun.sound;
-})
+  sound = said_sound l windows h f old.image layout (inr is) begun.sound;
+}
 
 -- ---- what pages tell
 
@@ -157,7 +152,7 @@ lists_now sectors l windows h f old begun = let apart = regions_apart l begun.pl
 
 module _ (sectors : ℕ) (l : Layout) (windows : List WeakRun) (h : List Change) (f : ℕ) (old : Moment) (begun : IsSoundAt sectors l windows h f old) (lists : TellsChoices l windows h f old.image) where
   pub shows_now : ShowsVolume sectors l windows lists.choices old
-  shows_now = record { planned = begun.planned; fits = begun.fits; ends = begun.ends; shows = lists.shows }
+  shows_now = record { planned = begun.planned; fits = begun.fits; ends = begun.ends; lie = all_lie l windows h f old.image lists; shows = lists.shows }
 
   -- the data stays but for damage that may have come
   data_stays : (j : Image) → SameData l (weak_of windows) old.image j → SameData l (in_runs windows) old.image j
@@ -165,14 +160,20 @@ module _ (sectors : ℕ) (l : Layout) (windows : List WeakRun) (h : List Change)
 
   -- ---- before it settles
 
-  tells_in : (j : Image) → SameData l (weak_of windows) old.image j → (o : Option Telling) → Tells l (in_runs windows) old.image h f o → Tells l (in_runs windows) j h f o
-  tells_in j same None tells = tells
-  tells_in j same (Some t) tells = (tells.0, tells.1, describes_data l (in_runs windows) (after (take tells.0 h)) t.entries old.image j (data_stays j same) tells.2)
+  tells_at : (j : Image) → SameData l (weak_of windows) old.image j → (o : Option Telling) → Tells l (in_runs windows) old.image h f o → Tells l (in_runs windows) j h f o
+  tells_at j same None tells = tells
+  tells_at j same (Some t) tells = (tells.0, tells.1, describes_data l (in_runs windows) (after (take tells.0 h)) t.entries old.image j (data_stays j same) tells.2)
 
   pub sound_before : (j : Image) → ShowsPages l windows lists.choices j → ClosesNone old.image j → SameData l (weak_of windows) old.image j → IsSound l windows h f j
   sound_before j shows closes same =
-      sound_from_pages l windows h f lists.choices j shows (λ pages one. tells_in j same (told_in pages) (lists.tells pages one))
+      sound_from_pages l windows h f lists.choices j shows (λ pages one. tells_at j same (told_in pages) (lists.tells pages one))
       (λ pages one. saves_on l old.image j pages closes (λ s from below. worn_reads (weak_of windows) old.image j s (same s from)) (lists.saved pages one))
+
+  -- so it is by one page list of them
+  pub sound_by_one : (pages : List (List ℕ)) → Contains lists.choices pages → (j : Image) → ShowsPages l windows (pages ∷ []) j → IsOpen j → SameData l (weak_of windows) old.image j → IsSound l windows h f j
+  sound_by_one pages chosen j shows opened same =
+      sound_from_pages l windows h f (pages ∷ []) j shows (λ ps one. one_of (λ qs. Tells l (in_runs windows) j h f (told_in qs)) pages ps (tells_at j same (told_in pages) (lists.tells pages chosen)) one)
+      (λ ps one. open_saves l j ps opened)
 
   -- ---- since then
 

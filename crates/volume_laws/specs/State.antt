@@ -1,6 +1,6 @@
 -- What a volume tells, and what it is of.
 use Rattle.std.specs.Prelude.{◌≡◌, ℕ, ◌<◌, false, not, ◌||◌, ◌==◌, List, Option, Some, Ok, length, slice_index_or}
-use Rattle.volume_layout.specs.Layout.{plan}
+use Rattle.volume_layout.specs.Layout.{IsPlanned}
 use Rattle.run_table.specs.Space.{contains, where_free, runs_of}
 use Rattle.shadow_frees.specs.Readers.{unheld}
 use Rattle.shadow_frees.specs.Waits.{waiting_sectors}
@@ -58,7 +58,7 @@ module _ (v : VolumeValue) where
 -- What it has in memory is of this volume, whose log has these records: pages, free sectors, those that wait for a force,
 -- for a reader alone, and for an unfinished creation, free name pages, and where each page's last image lies.
 pub record IsMemoryOf (v : VolumeValue) (m : Mounted) (records : List Placed) : Type 0 where
-  pub planned : plan v.layout.kind v.layout.sectors v.layout.third v.layout.pages ≡ Ok v.layout
+  pub planned : IsPlanned v.layout
   pub pages : (page : ℕ) (bytes : List ℕ) → resident v page ≡ Some bytes → image_at m.pages page ≡ bytes
   pub inside : (page : ℕ) (bytes : List ℕ) → resident v page ≡ Some bytes → page < v.layout.pages
   pub map : (s : ℕ) → contains v.map.sectors s ≡ is_free m.volume s

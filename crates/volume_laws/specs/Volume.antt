@@ -1,7 +1,7 @@
 -- A volume by its parts, and what holds of them over any machine.
 use Rattle.std.specs.Prelude.{◌≡◌, ◌⊎◌, ℕ, ◌<◌, ◌-◌, ◌^◌, Bool, ◌||◌, List, [], Option, None, Ok, length, IsTrue, IsFalse}
 use Rattle.volume_layout.specs.declared.layout.Layout.{Layout}
-use Rattle.volume_layout.specs.Layout.{plan}
+use Rattle.volume_layout.specs.Layout.{IsPlanned}
 use Rattle.run_table.specs.Space.{contains}
 use Rattle.fsd_bytes.specs.declared.key.Serial.{Serial}
 use Rattle.sector_set.specs.Area.{Area}
@@ -38,7 +38,7 @@ pub record WaitsOnce (w : Waits) : Type 0 where
 -- each dirty page is an image of itself, and the next record can be numbered;
 -- where none is dirty no sector waits for a force.
 pub record IsWholeVolume (v : VolumeValue) : Type 0 where
-  pub planned : plan v.layout.kind v.layout.sectors v.layout.third v.layout.pages ≡ Ok v.layout
+  pub planned : IsPlanned v.layout
   pub map : IsOfData v.layout v.map
   pub removed : IsOfData v.layout v.shadow.removed
   pub kept : IsOfData v.layout v.shadow.kept

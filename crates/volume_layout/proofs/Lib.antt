@@ -1,3 +1,4 @@
+pub mod GrownLaws
 pub mod KindLaws
 pub mod RegionLaws
 pub mod RootLaws

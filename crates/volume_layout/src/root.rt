@@ -7,7 +7,8 @@ use crate::kind::Kind;
 use crate::layout::Layout;
 use fsd_bytes::{put_bytes, put_u32, u32_at};
 
-/// The sector that says a layout: the magic `CFSR`, the kind of layout, and its three numbers (docs/FORMAT.md).
+/// The sector that says a layout: the magic `CFSR`, the kind of layout, its three numbers, and the sectors that it may grow
+/// to, or 0 (docs/FORMAT.md).
 pub fn root_bytes(l: &Layout) -> [u8; 512]
     ensures { result ≡ root_bytes l.now }
 {
@@ -17,6 +18,7 @@ pub fn root_bytes(l: &Layout) -> [u8; 512]
     put_u32(&mut b, 8, l.sectors());
     put_u32(&mut b, 12, l.third());
     put_u32(&mut b, 16, l.pages());
+    put_u32(&mut b, 20, l.most());
     b
 }
 
@@ -25,7 +27,7 @@ pub fn read_root(b: &[u8; 512]) -> Option<Layout>
     ensures { result ≡ read_root b.now }
 {
     let kind = kind_of(u32_at(b, 4));
-    match Layout::plan_as(kind, u32_at(b, 8), u32_at(b, 12), u32_at(b, 16)) {
+    match Layout::plan_as(kind, u32_at(b, 8), u32_at(b, 12), u32_at(b, 16), u32_at(b, 20)) {
         Ok(l) => if root_bytes(&l) == *b { Some(l) } else { None },
         Err(_) => None,
     }

@@ -189,7 +189,7 @@ module _ {S D : Type 0} (state : S → State) (has : S → Mounted → List Plac
   telling : telling_of (volume_of k) ≡ telling_of (volume_of after)
   telling = ap telling_of volume_is
 
-  says_at : (s : ℕ) → IsRootAt l (M.now m).image s → Has (open_damage (M.now m).windows) (M.now m).image (root_bytes (state w).layout) s → sector_at (M.now m).image s ≡ Whole (root_bytes (turned l))
+  says_at : (s : ℕ) → IsRootAt l sound.readable.roots.other (M.now m).image s → Has (open_damage (M.now m).windows) (M.now m).image (root_bytes (state w).layout) s → sector_at (M.now m).image s ≡ Whole (root_bytes (turned l))
   says_at s root stands =
       let same : (state w).layout ≡ turned l = ap (λ (x : State). x.layout) three ∙ ap (λ (x : Layout). with_kind Three x) (sym stood.fits.layout) ∙ turned_is in
       root_says (state w).layout (open_damage (M.now m).windows) (M.now m).image s root.0 root.1 stands ∙ ap (λ (x : Layout). Whole (root_bytes x)) same
@@ -202,7 +202,7 @@ module _ {S D : Type 0} (state : S → State) (has : S → Mounted → List Plac
   lasts j worn =
       let unforced : (volume_of after).unforced ≡ 0 = ap (λ (x : Volume). x.unforced) (sym volume_is) ∙ forced in
       let worn_after = subst (λ (ws : List WeakRun). IsWorn (weak_of ws) (M.now m).image j) (sym does.1.windows) worn in
-      let by_turned : told (turned l) j ≡ told l j = ap (option_and_then told_in) (shown_turned l j ((sound.readable.either says).empty j worn)) in
+      let by_turned : told (turned l) j ≡ told l j = ap (option_and_then told_in) (shown_turned l j ((sound.readable.either (turned l) (inl refl) says).empty refl j worn)) in
       sym by_turned ∙ ap (λ (x : Layout). told x j) (sym same_layout) ∙ mounted_lasts after.mounted after.windows after.changes (forced_of after) (M.now m).image does.2.disk unforced j worn_after ∙ ap (λ (x : Telling). Some x) (sym telling)
 
   ends_in : EndIn (M.now m).windows k.windows

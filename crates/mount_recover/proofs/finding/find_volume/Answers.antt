@@ -1,5 +1,5 @@
 use Rattle.std.proofs.Common.{◌≡◌, Err, Some, ◌<◌, ◌≤◌, Ok, length, sym, ◌∙◌, arith}
-use Rattle.volume_layout.specs.Layout.{plan}
+use Rattle.volume_layout.specs.Layout.{IsPlanned}
 use Rattle.volume_layout.proofs.RootLaws.{planned_bounds}
 use Rattle.sector_disk.proofs.CallLaws.{reads_then, reads_told}
 use Rattle.fsd_files.specs.Disk.{first_whole}
@@ -42,7 +42,7 @@ returns-in-Err-scan-clause-refused g c h =
     let h1 = c.scan.ensures.reads.trust.honest h in
     let sized = g.met.M.Machine.sized c.find_roots.new.m h1 in
     let taken : first_whole roots.first roots.second ≡ Some c.in-Some.layout = sym c.taken.ensures ∙ c.in-Some.is in
-    let bounds = planned_bounds c.in-Some.layout (taken_so (λ k. plan k.kind k.sectors k.third k.pages ≡ Ok k) roots.first roots.second c.in-Some.layout taken c.in-Ok.ensures.planned.0 c.in-Ok.ensures.planned.1) in
+    let bounds = planned_bounds c.in-Some.layout (taken_so (λ k. IsPlanned k) roots.first roots.second c.in-Some.layout taken c.in-Ok.ensures.planned.0 c.in-Ok.ensures.planned.1) in
     let fits = taken_so (λ k. k.sectors ≤ c.args.sectors) roots.first roots.second c.in-Some.layout taken c.in-Ok.ensures.fits.0 c.in-Ok.ensures.fits.1 in
     let room : 12 < length mid.image = omega (arith, sized, bounds.third_least, bounds.sectors_least, fits, c.requires, c.find_roots.ensures.reads.uses.sectors) in
     not_found_so c.args.sectors roots.first roots.second old mid (c.find_roots.ensures.reads.worn h1) (c.in-Ok.ensures.seen h1) c.in-Some.layout taken c.in-Err-scan.fault c.mount_fault.result room c.mount_fault.ensures

@@ -10,6 +10,7 @@ use Rattle.mount_recover.specs.Steps.{MendsOn}
 use Rattle.mount_recover.specs.Mending.{AreHomed, AreOfVolume, IsMending, StaysShown}
 use Rattle.mount_recover.specs.Showing.{IsShowing, LosesNone}
 use Rattle.mount_recover.proofs.CalmLaws.{still_next}
+use Rattle.mount_recover.proofs.KeepsLaws.{keeps_on}
 use Rattle.mount_recover.proofs.FaultLaws.{handed_so, lost_more}
 use Rattle.mount_recover.proofs.StepLaws.{mends_on, mends_up}
 use Rattle.mount_recover.proofs.HomesLaws.{all_homed, count_most, homed_none, homed_further}
@@ -136,3 +137,14 @@ returns-clause-shown g c records h still given =
     c.heal_others.ensures.shown records old.image h (still_next (M.now c.write_homes.new.m) (M.now c.write_homes-2.new.m) (c.write_homes-2.ensures.keeps h2).windows still_one) given
     (showing_further l records old.image (c.home_b.result + l.pages) (home_b l l.pages) (M.now c.write_homes-2.new.m).image (λ page within before. omega (arith, c.home_b.ensures.place, within))
     (c.in_ok-write_homes-2.ensures.shown records old.image h2 still_one given (showing_further l records old.image (c.home_a.result + l.pages) c.home_b.result (M.now c.write_homes.new.m).image (λ page within before. no_home_between l c.home_a.result c.home_b.result page (home_a l page) c.home_a.ensures.place c.home_b.ensures.place within (inl refl) before) (c.in_ok-write_homes.ensures.shown records old.image h1 still given (showing_none l records old.image c.home_a.result c.home_a.ensures.place)))))
+
+-- what is kept
+
+pub returns-clause-keeps : goal.returns-clause-keeps
+returns-clause-keeps g c h =
+    let M = g.M.Machine in
+    let l = c.args.l.now in
+    let a = M.now c.args.m.now in let b = M.now c.write_homes.new.m in let d = M.now c.write_homes-2.new.m in let e = M.now c.heal_others.new.m in
+    let at_d = c.heal_others.ensures.mends.disk.trust.honest h in
+    let at_b = c.in_ok-write_homes-2.ensures.mends.disk.trust.honest at_d in
+    keeps_on l a d e (keeps_on l a b d (c.write_homes.ensures.keeps at_b) (c.write_homes-2.ensures.keeps at_d)) (c.heal_others.ensures.keeps h)
