@@ -73,6 +73,8 @@ refusal_cases P device lost unsound memory (Why.Idle n) = memory (Why.Idle n) re
 refusal_cases P device lost unsound memory (Why.Short declared got) = memory (Why.Short declared got) refl
 refusal_cases P device lost unsound memory (Why.Long declared got) = memory (Why.Long declared got) refl
 refusal_cases P device lost unsound memory (Why.LayoutIs n) = memory (Why.LayoutIs n) refl
+refusal_cases P device lost unsound memory (Why.NotLarger n) = memory (Why.NotLarger n) refl
+refusal_cases P device lost unsound memory (Why.PastMost n) = memory (Why.PastMost n) refl
 
 device_told : (home_a : ℕ) (f : TreeFault) → device_of_mount (mount_fault_in home_a f) ≡ outer_device (outer_of f)
 device_told home_a (Broken page) = refl

@@ -7,7 +7,7 @@ pub enum Refusal {
     /// The key is no version, or the name has none.
     #[error("no such version")]
     NoSuch,
-    /// More bytes than a version may have: so many.
+    /// More bytes than a version may have: so many. For a dump: so many are needed, and that is more than it may have.
     #[error("{0} bytes are too many for a version")]
     TooLong(u64),
     /// The key is a version already.
@@ -34,8 +34,8 @@ pub enum Refusal {
     /// The place of a call of the disk that failed.
     #[error("the device failed at {0}")]
     Device(u32),
-    /// An earlier force failed at this place.
-    #[error("the volume is down since a force failed at {0}")]
+    /// An earlier force, or an earlier write of the roots, failed at this place.
+    #[error("the volume is down since the device failed at {0}")]
     Down(u32),
     /// Both copies of what stands twice are damaged.
     #[error("sectors {a} and {b} are both damaged")]
@@ -67,4 +67,10 @@ pub enum Refusal {
     /// The volume has layout 2 already.
     #[error("the volume has layout {0} already")]
     LayoutIs(u32),
+    /// The volume has so many sectors already.
+    #[error("the volume has {0} sectors already")]
+    NotLarger(u32),
+    /// The most sectors that the volume may grow to.
+    #[error("the volume may grow to {0} sectors at most")]
+    PastMost(u32),
 }

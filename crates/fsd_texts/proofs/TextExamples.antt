@@ -22,14 +22,14 @@ unfolding digits
 no_replies = refl
 
 refusals : map (λ why. text (Says.Refused why)) (Why.NoSuch ∷ Why.TooLong 4193793 ∷ Why.NoSpace 8192 1127 ∷ Why.TooFragmented 9 8 ∷ Why.NameTableFull 7 ∷ Why.VersionsUsedUp ∷ Why.KeepTooLarge 1000
-    ∷ Why.BadClient 9 ∷ Why.Busy 1 ∷ Why.Idle 2 ∷ Why.Short 5 3 ∷ Why.Long 5 6 ∷ Why.LayoutIs 2 ∷ [])
+    ∷ Why.BadClient 9 ∷ Why.Busy 1 ∷ Why.Idle 2 ∷ Why.Short 5 3 ∷ Why.Long 5 6 ∷ Why.LayoutIs 2 ∷ Why.NotLarger 2048 ∷ Why.PastMost 3968 ∷ [])
     ≡ map (λ (l : List ℕ). codes "refused " ++ l ++ newline) (codes "no-such" ∷ codes "too-long 4193793" ∷ codes "no-space 8192 1127" ∷ codes "fragmented 9 8" ∷ codes "table-full 7" ∷ codes "versions-used" ∷ codes "keep 1000"
-    ∷ codes "client 9" ∷ codes "busy 1" ∷ codes "idle 2" ∷ codes "short 5 3" ∷ codes "long 5 6" ∷ codes "layout 2" ∷ [])
+    ∷ codes "client 9" ∷ codes "busy 1" ∷ codes "idle 2" ∷ codes "short 5 3" ∷ codes "long 5 6" ∷ codes "layout 2" ∷ codes "size 2048" ∷ codes "most 3968" ∷ [])
 unfolding digits
 refusals = refl
 
-no_plans : map (λ why. text (Says.Unplanned why)) (Plan.BadThird 199 ∷ Plan.BadPages 15 ∷ Plan.TooLarge 16777217 ∷ Plan.TooSmall 721 ∷ [])
-    ≡ map (λ (l : List ℕ). codes "refused " ++ l ++ newline) (codes "third 199" ∷ codes "pages 15" ∷ codes "too-large 16777217" ∷ codes "too-small 721" ∷ [])
+no_plans : map (λ why. text (Says.Unplanned why)) (Plan.BadThird 199 ∷ Plan.BadPages 15 ∷ Plan.TooLarge 16777217 ∷ Plan.BadMost 2047 ∷ Plan.TooSmall 721 ∷ [])
+    ≡ map (λ (l : List ℕ). codes "refused " ++ l ++ newline) (codes "third 199" ∷ codes "pages 15" ∷ codes "too-large 16777217" ∷ codes "most 2047" ∷ codes "too-small 721" ∷ [])
 unfolding digits
 no_plans = refl
 

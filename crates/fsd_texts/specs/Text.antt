@@ -1,7 +1,7 @@
 -- The lines that are said.
 use Rattle.std.specs.Prelude.{ℕ, ◌-◌, List, [], ◌∷◌, ◌++◌, Result, Ok, Err, codes, decimal}
 use Rattle.fsd_bytes.specs.declared.refusal.Refusal.{Refusal}
-use Rattle.fsd_bytes.specs.declared.refusal.Refusal.TheVariants.{NoSuch, Exists, TooLong, NoSpace, TooFragmented, NameTableFull, VersionsUsedUp, KeepTooLarge, BadClient, Busy, Idle, Short, Long, LayoutIs}
+use Rattle.fsd_bytes.specs.declared.refusal.Refusal.TheVariants.{NoSuch, Exists, TooLong, NoSpace, TooFragmented, NameTableFull, VersionsUsedUp, KeepTooLarge, BadClient, Busy, Idle, Short, Long, LayoutIs, NotLarger, PastMost}
 use Rattle.fsd_bytes.specs.Keys.{key_text}
 use Rattle.volume_layout.specs.declared.layout.Layout.{Layout}
 use Rattle.volume_layout.specs.Layout.{data_start}
@@ -52,6 +52,8 @@ refusal_words (Idle c) = codes "idle" ∷ number c ∷ []
 refusal_words (Short declared got) = codes "short" ∷ number declared ∷ number got ∷ []
 refusal_words (Long declared got) = codes "long" ∷ number declared ∷ number got ∷ []
 refusal_words (LayoutIs n) = codes "layout" ∷ number n ∷ []
+refusal_words (NotLarger n) = codes "size" ∷ number n ∷ []
+refusal_words (PastMost most) = codes "most" ∷ number most ∷ []
 -- the others are told by lines of their own
 refusal_words other = []
 

@@ -146,6 +146,8 @@ fn refused_text(why: Refusal) -> LineText
         }
         Refusal::Long { declared, got } => paired("refused long ", u64::from(declared), got),
         Refusal::LayoutIs(number) => numbered("refused layout ", u64::from(number)),
+        Refusal::NotLarger(sectors) => numbered("refused size ", u64::from(sectors)),
+        Refusal::PastMost(most) => numbered("refused most ", u64::from(most)),
         Refusal::Damaged(_)
         | Refusal::Device(_)
         | Refusal::Down(_)

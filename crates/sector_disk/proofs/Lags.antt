@@ -1,8 +1,8 @@
 -- What a stop leaves, from what the moments have.
-use Rattle.std.proofs.Common.{◌≡◌, ◌⊎◌, ◌≤◌, ◌<◌, inl, inr, ⊎_elim, ℕ, arith, sym, ap, subst, refl}
+use Rattle.std.proofs.Common.{◌≡◌, ◌⊎◌, ◌≤◌, ◌<◌, inl, inr, ⊎_elim, ℕ, arith, sym, ap, subst}
 use Rattle.std.proofs.lemmas.Bool.{cases_lt}
 use Rattle.sector_disk.specs.declared.machine.Machine.{Ghosts}
-use Rattle.sector_disk.specs.Machine.{Moment, IsHistory, IsSynced, LeavesOnly, StopSince}
+use Rattle.sector_disk.specs.Machine.{Moment, IsSynced, LeavesOnly}
 use Rattle.sector_disk.specs.Calls.{IsHeld, IsTimed, Since, StopsOnly, stops}
 
 -- what a stop leaves: the image of one moment, and all else of another

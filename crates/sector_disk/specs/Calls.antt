@@ -1,5 +1,5 @@
 -- What any call over a machine keeps, said once for each kind of call.
-use Rattle.std.specs.Prelude.{◌≡◌, ◌≤◌, ℕ, Bool, true, false, Option, Some, None, Result, Ok, Err, List}
+use Rattle.std.specs.Prelude.{◌≡◌, ◌≤◌, ℕ, max, Bool, true, false, Option, Some, None, Result, Ok, Err, List}
 use Rattle.sector_disk.specs.declared.machine.Machine.{Ghosts}
 use Rattle.sector_disk.specs.declared.machine.Failed.{Failed}
 use Rattle.sector_disk.specs.declared.machine.LoadFault.{LoadFault}
@@ -102,6 +102,11 @@ pub record GrowsDisk {D : Type 0} (M : Ghosts D) (fault : Option ℕ) (R : Momen
   pub exit : M.honest new → R (M.now old) (M.now new)
   pub since : M.honest new → Since M old new
   pub any_moment : M.honest new → LeavesOnly M.moment M.left_since old new (R (M.now old))
+
+-- the number of sectors that is told behind a growth: the greater one, and the old one where it failed
+abbrev pub told_behind : {T E : Type 0} → Result T E → ℕ → ℕ → ℕ
+told_behind (Ok done) old sectors = max old sectors
+told_behind (Err failed) old sectors = old
 
 -- A call that writes the disk and turns its windows.
 pub record HealsDisk {D : Type 0} (M : Ghosts D) (fault : Option ℕ) (old new : D) : Type 0 where

@@ -1,8 +1,8 @@
 //! One read of a sector, one write of whole sectors and one growth of the image, which say what any call keeps.
-ghost use Rattle.std.specs.Prelude.{◌≡◌, ◌<◌, ◌≤◌, ◌+◌, ◌/◌, ◌%◌, length, max, Ok, IfErr, IfOk, OnOk, OnErr};
+ghost use Rattle.std.specs.Prelude.{◌≡◌, ◌<◌, ◌≤◌, ◌+◌, ◌/◌, ◌%◌, length, Ok, IfErr, IfOk, OnOk, OnErr};
 ghost use Rattle.sector_disk.specs.Image.{sector_at, stand};
 ghost use Rattle.sector_disk.specs.Machine.{Extends, Grows, Holds, IsSynced, Shows, Tears, Writes, wrote};
-ghost use Rattle.sector_disk.specs.Calls.{GrowsDisk, OnlyReads, WritesDisk, as_sector, device_in, failed_at};
+ghost use Rattle.sector_disk.specs.Calls.{GrowsDisk, OnlyReads, WritesDisk, as_sector, device_in, failed_at, told_behind};
 
 use crate::{Failed, Machine, Seen};
 
@@ -53,7 +53,7 @@ pub fn extend_image<M: Machine>(m: &mut M, sectors: u32) -> Result<(), Failed>
 
     ensures grows { GrowsDisk M.Machine (device_in failed_at result) (Grows sectors) m.old m.new }
     ensures place { IfErr result (λ failed. failed.place ≡ 0) }
-    ensures sectors { OnOk result ((M.report m.new).sectors ≡ max (M.report m.old).sectors sectors) }
+    ensures sectors { (M.report m.new).sectors ≡ told_behind result (M.report m.old).sectors sectors }
     ensures ledger { M.tells m.new → M.ledger m.new ≡ M.ledger m.old }
     ensures synced { OnOk result (M.honest m.new → IsSynced (M.now m.new)) }
     ensures done { OnOk result (M.honest m.new → Extends sectors (M.now m.old) (M.now m.new)) }

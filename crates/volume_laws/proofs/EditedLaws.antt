@@ -60,6 +60,8 @@ refusal_cases P device lost memory none (Pages (Why.Idle n)) = none
 refusal_cases P device lost memory none (Pages (Why.Short declared got)) = none
 refusal_cases P device lost memory none (Pages (Why.Long declared got)) = none
 refusal_cases P device lost memory none (Pages (Why.LayoutIs n)) = none
+refusal_cases P device lost memory none (Pages (Why.NotLarger n)) = none
+refusal_cases P device lost memory none (Pages (Why.PastMost n)) = none
 
 pub version_cases : (P : Option Refusal → Refusal → Type 0) → ((s : ℕ) → P (Some (Why.Device s)) (Why.Device s)) → ((a b : ℕ) → P (Some (Why.Lost a b)) (Why.Lost a b)) → P (Some Why.Memory) Why.Memory → P None Why.NoSuch
     → (f : VersionFault) → P (outside_in f) (version_refusal f)
