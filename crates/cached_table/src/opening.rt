@@ -12,6 +12,7 @@ use crate::surveying::{survey_fault, survey_in};
 use alloc_map::Map;
 use fsd_sound::MountFault;
 use page_cache::Cache;
+use run_table::Run;
 use sector_disk::Machine;
 use std::alloc::{AllocError, Global};
 use table_pages::FreePages;
@@ -53,7 +54,12 @@ fn room_for(alloc: Global, l: &Layout) -> Result<Room, AllocError>
 {
     let cache = Cache::new(alloc, FRAMES)?;
     let free_pages = FreePages::new(alloc, l.pages())?;
-    let map = Map::from_runs(alloc, l.data_start(), l.sectors(), &[])?;
+    let most = l.most_sectors();
+    let behind = Run {
+        start: l.sectors(),
+        length: most - l.sectors(),
+    };
+    let map = Map::from_runs(alloc, l.data_start(), most, &[behind])?;
     let marks = no_marks(alloc, l.pages())?;
     Ok(Room {
         cache,

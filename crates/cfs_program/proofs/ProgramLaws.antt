@@ -6,7 +6,7 @@ use Rattle.std.proofs.lemmas.List.{append-nil}
 use Rattle.volume_layout.specs.declared.kind.Kind.{Kind}
 use Rattle.volume_layout.specs.declared.layout.Layout.{Layout}
 use Rattle.volume_layout.specs.declared.fault.LayoutFault.{LayoutFault}
-use Rattle.volume_layout.specs.Layout.{plan}
+use Rattle.volume_layout.specs.Layout.{plan_most}
 use Rattle.sector_disk.specs.declared.machine.Failed.{Failed}
 use Rattle.sector_disk.specs.declared.machine.Machine.{Ghosts}
 use Rattle.sector_disk.specs.Calls.{Counts, IsTimed, LeavesDisk, SparesDisk}
@@ -74,7 +74,7 @@ module _ {D : Type 0} (M : Ghosts D) (path : List ℕ) (a b : D) (line : Line) (
   IsSaid None = ⊤
 
   pub ran_line : (request : Request) → Some line ≡ line_for request → Ran M request path a b result
-  ran_line (Format n t p kind) is = absurd (cc is)
+  ran_line (Format n t p kind q) is = absurd (cc is)
   ran_line (Put name keep) is = absurd (cc is)
   ran_line (One command) is = absurd (cc is)
   ran_line Script is = absurd (cc is)
@@ -135,12 +135,12 @@ six_one (Word.Put name bytes keep) = refl
 six_one command = refl
 
 seven_is : (request : Request) → IsTrue (is_status_of (complete_statuses request) 7) × IsTrue (is_status_of (complete_statuses request ++ fault_statuses request) 7)
-seven_is (Format n t p kind) = seven_format (plan kind n t p)
+seven_is (Format n t p kind q) = seven_format (plan_most kind n t p q)
 seven_is (One command) = seven_one command
 seven_is other = (refl, refl)
 
 six_is : (request : Request) → IsTrue (is_status_of (complete_statuses request ++ fault_statuses request) 6)
-six_is (Format n t p kind) = six_format (plan kind n t p)
+six_is (Format n t p kind q) = six_format (plan_most kind n t p q)
 six_is (One command) = six_one command
 six_is other = refl
 
@@ -159,7 +159,7 @@ spares_plan (Err why) old new still = still
 spares_image : (request : Request) (old new : Moment) → Ages old new → SparesImage request old new
 spares_image NoCommand old new still = still
 spares_image (BadField cause) old new still = still
-spares_image (Format n t p kind) old new still = spares_plan (plan kind n t p) old new still
+spares_image (Format n t p kind q) old new still = spares_plan (plan_most kind n t p q) old new still
 spares_image Drill old new still = still
 spares_image request old new still = tt
 
@@ -342,21 +342,21 @@ format_asked (Err why) path old new result status asks all inside = none asks.at
     none (inl same) = same
     none (inr same) = same ∙ sym (append-nil old.attaches)
 
-pub ran_format : {D : Type 0} (M : Ghosts D) (n t p : ℕ) (kind : Kind) (path : List ℕ) (a b : D) (result : ℕ) → RunsFormat M (plan kind n t p) path a b result → Ran M (Format n t p kind) path a b result
+pub ran_format : {D : Type 0} (M : Ghosts D) (n t p q : ℕ) (kind : Kind) (path : List ℕ) (a b : D) (result : ℕ) → RunsFormat M (plan_most kind n t p q) path a b result → Ran M (Format n t p kind q) path a b result
 ran_format M n t p kind path a b result e = record {
-  status = format_status_is (plan kind n t p) result e.status;
-  complete = λ none. format_complete (plan kind n t p) result e.status (λ four. none.disk (e.counts.disk four)) (λ six. none.output (e.counts.output six));
+  status = format_status_is (plan_most kind n t p q) result e.status;
+  complete = λ none. format_complete (plan_most kind n t p q) result e.status (λ four. none.disk (e.counts.disk four)) (λ six. none.output (e.counts.output six));
   device = e.counts.disk;
   output = e.counts.output;
   quiet = λ quiet. e.counts.quiet (quiet_unfailed result quiet);
   unfailed = λ unfailed. input_alone (M.report a) (M.report b) (e.counts.quiet unfailed);
   attaches = λ t. (e.asks t).attaches;
-  attached = λ inside told. format_asked (plan kind n t p) path (M.ledger a) (M.ledger b) result e.status (e.asks told) (λ zero. e.asked zero told) inside;
+  attached = λ inside told. format_asked (plan_most kind n t p q) path (M.ledger a) (M.ledger b) result e.status (e.asks told) (λ zero. e.asked zero told) inside;
   syncs = λ t. (e.asks t).syncs;
   taken = λ t. (e.asks t).input;
   spared = e.counts.input;
-  input = λ five told. absurd (format_not 5 (plan kind n t p) result e.status (λ e. omega (arith, e)) (λ e. omega (arith, e)) (λ e. omega (arith, e)) (λ e. omega (arith, e)) five);
-  fails = λ five h. absurd (format_not 5 (plan kind n t p) result e.status (λ e. omega (arith, e)) (λ e. omega (arith, e)) (λ e. omega (arith, e)) (λ e. omega (arith, e)) five);
+  input = λ five told. absurd (format_not 5 (plan_most kind n t p q) result e.status (λ e. omega (arith, e)) (λ e. omega (arith, e)) (λ e. omega (arith, e)) (λ e. omega (arith, e)) five);
+  fails = λ five h. absurd (format_not 5 (plan_most kind n t p q) result e.status (λ e. omega (arith, e)) (λ e. omega (arith, e)) (λ e. omega (arith, e)) (λ e. omega (arith, e)) five);
   bad = λ two h. tt;
   whole = λ zero t. tt;
   spelled = λ zero t. tt;
@@ -364,9 +364,9 @@ ran_format M n t p kind path a b result e = record {
   says = λ h. inl (e.says h);
   healed = λ of h. tt;
   mounted = λ any h. tt;
-  refused = λ three h. absurd (format_not 3 (plan kind n t p) result e.status (λ e. omega (arith, e)) (λ e. omega (arith, e)) (λ e. omega (arith, e)) (λ e. omega (arith, e)) three);
-  accepted = λ h l windows changes f sound three. format_not 3 (plan kind n t p) result e.status (λ e. omega (arith, e)) (λ e. omega (arith, e)) (λ e. omega (arith, e)) (λ e. omega (arith, e)) three;
-  spent = λ nine h. absurd (format_not 9 (plan kind n t p) result e.status (λ e. omega (arith, e)) (λ e. omega (arith, e)) (λ e. omega (arith, e)) (λ e. omega (arith, e)) nine);
+  refused = λ three h. absurd (format_not 3 (plan_most kind n t p q) result e.status (λ e. omega (arith, e)) (λ e. omega (arith, e)) (λ e. omega (arith, e)) (λ e. omega (arith, e)) three);
+  accepted = λ h l windows changes f sound three. format_not 3 (plan_most kind n t p q) result e.status (λ e. omega (arith, e)) (λ e. omega (arith, e)) (λ e. omega (arith, e)) (λ e. omega (arith, e)) three;
+  spent = λ nine h. absurd (format_not 9 (plan_most kind n t p q) result e.status (λ e. omega (arith, e)) (λ e. omega (arith, e)) (λ e. omega (arith, e)) (λ e. omega (arith, e)) nine);
   last = λ of h. tt;
   all = λ zero h. tt;
   image = e.made;

@@ -2,7 +2,7 @@
 use Rattle.std.specs.Prelude.{◌≡◌, ◌⊎◌, ◌≤◌, ◌+◌, ⊤, ℕ, List, [], ◌∷◌, ◌++◌, length, take, Option, Some, None, Result, Ok, Err, IsFalse, IsTrue}
 use Rattle.volume_layout.specs.declared.layout.Layout.{Layout}
 use Rattle.volume_layout.specs.declared.fault.LayoutFault.{LayoutFault}
-use Rattle.volume_layout.specs.Layout.{plan}
+use Rattle.volume_layout.specs.Layout.{plan_most}
 use Rattle.sector_disk.specs.declared.machine.Machine.{Ghosts}
 use Rattle.sector_disk.specs.Calls.{IsHeld}
 use Rattle.sector_disk.specs.Machine.{Asked, Ledger, Moment, Report, Rose, Trusts}
@@ -38,7 +38,7 @@ use Rattle.cfs_program.specs.Opening.{AcceptsSound, AsFound, AsksOrNot, HealsFou
 abbrev pub complete_statuses : Request → List ℕ
 complete_statuses NoCommand = 2 ∷ 7 ∷ []
 complete_statuses (BadField cause) = 2 ∷ 7 ∷ []
-complete_statuses (Format n t p kind) = format_status (plan kind n t p) ∷ 7 ∷ []
+complete_statuses (Format n t p kind q) = format_status (plan_most kind n t p q) ∷ 7 ∷ []
 complete_statuses (Put name keep) = 0 ∷ 1 ∷ 3 ∷ 5 ∷ 7 ∷ 9 ∷ []
 complete_statuses (One command) = reply_statuses command ++ 3 ∷ 7 ∷ 9 ∷ []
 complete_statuses Script = 0 ∷ 2 ∷ 3 ∷ 5 ∷ 7 ∷ 9 ∷ []
@@ -55,7 +55,7 @@ plan_faults (Err why) = 6 ∷ []
 abbrev pub fault_statuses : Request → List ℕ
 fault_statuses NoCommand = 6 ∷ []
 fault_statuses (BadField cause) = 6 ∷ []
-fault_statuses (Format n t p kind) = plan_faults (plan kind n t p)
+fault_statuses (Format n t p kind q) = plan_faults (plan_most kind n t p q)
 fault_statuses (Put name keep) = 4 ∷ 5 ∷ 6 ∷ []
 fault_statuses Script = 4 ∷ 5 ∷ 6 ∷ []
 fault_statuses Restore = 4 ∷ 5 ∷ 6 ∷ []
@@ -68,7 +68,7 @@ fault_statuses request = 4 ∷ 6 ∷ []
 abbrev pub asks_of : Request → List ℕ → List Asked
 asks_of NoCommand path = []
 asks_of (BadField cause) path = []
-asks_of (Format n t p kind) path = plan_asks (plan kind n t p) path
+asks_of (Format n t p kind q) path = plan_asks (plan_most kind n t p q) path
 asks_of Drill path = []
 asks_of request path = mount_asks path
 
@@ -145,7 +145,7 @@ SaysMemory old new result = SaysLine (Says.Ended Ends.Memory) 7 old new result �
 abbrev pub SaysAnswer : Request → (place : ℕ) → (old new : Moment) → ℕ → Type 0
 SaysAnswer NoCommand place old new result = SaysLine Says.Usage 2 old new result
 SaysAnswer (BadField cause) place old new result = SaysLine (field_line cause) 2 old new result
-SaysAnswer (Format n t p kind) place old new result = SaysFormat (plan kind n t p) place old new result
+SaysAnswer (Format n t p kind q) place old new result = SaysFormat (plan_most kind n t p q) place old new result
 SaysAnswer Drill place old new result = SaysDrill old new result
 SaysAnswer request place old new result = ⊤
 
@@ -198,14 +198,14 @@ IfScrubs request P = ⊤
 abbrev pub HoldsAfter : Request → (Held : (Moment → Type 0) → Type 0) → Type 0
 HoldsAfter NoCommand Held = ⊥
 HoldsAfter (BadField cause) Held = ⊥
-HoldsAfter (Format n t p kind) Held = IsMadeBy (plan kind n t p) Held
+HoldsAfter (Format n t p kind q) Held = IsMadeBy (plan_most kind n t p q) Held
 HoldsAfter request Held = ⊤
 
 -- a request that asks for no attach leaves the disk as it was
 abbrev pub SparesImage : Request → (old new : Moment) → Type 0
 SparesImage NoCommand old new = Ages old new
 SparesImage (BadField cause) old new = Ages old new
-SparesImage (Format n t p kind) old new = SparesUnplanned (plan kind n t p) old new
+SparesImage (Format n t p kind q) old new = SparesUnplanned (plan_most kind n t p q) old new
 SparesImage Drill old new = Ages old new
 SparesImage request old new = ⊤
 

@@ -2,7 +2,7 @@
 ghost use Rattle.std.specs.Prelude.{◌≡◌, Ok, OnOk};
 ghost use Rattle.sector_disk.specs.Calls.{device_in, failed_at};
 ghost use Rattle.sector_disk.specs.Machine.{Trusts};
-ghost use Rattle.volume_layout.specs.Layout.{plan};
+ghost use Rattle.volume_layout.specs.Layout.{plan_most};
 ghost use Rattle.cfs_program.specs.Formatting.{AsksAll, AsksAtMost, MakesVolume, RunsFormat, UsesAttach, plan_asks};
 
 use fsd_texts::{Fault, Line};
@@ -20,20 +20,21 @@ pub fn run_format<M: Machine>(
     third: u32,
     pages: u32,
     kind: Kind,
+    most: u32,
 ) -> u8
-    ensures { RunsFormat M.Machine (plan kind sectors third pages) path.now m.old m.new result }
+    ensures { RunsFormat M.Machine (plan_most kind sectors third pages most) path.now m.old m.new result }
 {
-    match plan_of(sectors, third, pages, kind) {
+    match plan_of(sectors, third, pages, kind, most) {
         Ok(l) => make(m, path, &l),
         Err(fault) => last_line(m, &Line::Unplanned(fault), 1),
     }
 }
 
 // The layout of these numbers, of this kind, or the first fault.
-fn plan_of(sectors: u32, third: u32, pages: u32, kind: Kind) -> Result<Layout, LayoutFault>
-    ensures { result ≡ plan kind sectors third pages }
+fn plan_of(sectors: u32, third: u32, pages: u32, kind: Kind, most: u32) -> Result<Layout, LayoutFault>
+    ensures { result ≡ plan_most kind sectors third pages most }
 {
-    Ok(Layout::plan(sectors, third, pages)?.with_kind(kind))
+    Ok(Layout::plan_most(sectors, third, pages, most)?.with_kind(kind))
 }
 
 // Makes a volume of this layout, and says so.

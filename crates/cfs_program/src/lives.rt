@@ -106,7 +106,7 @@ fn made(alloc: Global, pair: u32) -> Result<MemoryMachine, AllocError>
     let pairs = [1, 1, 1, pair, 1].to_vec(alloc)?;
     let image = Vec::new(alloc);
     let mut m = MemoryMachine::new(alloc, image, pairs, Vec::new(alloc), Vec::new(alloc))?;
-    match run_format(&mut m, PATH, 2048, 256, 64, Kind::Two) {
+    match run_format(&mut m, PATH, 2048, 256, 64, Kind::Two, 0) {
         0 => Ok(m),
         _ => Err(AllocError),
     }

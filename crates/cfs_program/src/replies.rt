@@ -95,6 +95,15 @@ fn text_of(alloc: Global, answer: &Reply) -> Result<Vec<u8>, AllocError>
             ],
         ),
         Reply::Scrubbed { found, healed } => scrub_text(alloc, found.as_slice(), *healed),
+        Reply::Grown { sectors, free } => parts_text(
+            alloc,
+            &[
+                Word("grown"),
+                Number(u64::from(*sectors)),
+                Word("free"),
+                Number(u64::from(*free)),
+            ],
+        ),
         Reply::Upgraded => parts_text(alloc, &[Word("upgraded"), Word("2")]),
         Reply::Begun(client) => parts_text(alloc, &[Word("begun"), Number(u64::from(*client))]),
         Reply::Took { client, sum } => parts_text(

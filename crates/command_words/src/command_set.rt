@@ -24,11 +24,11 @@ struct Row<'a> {
 
 // Their order is that of the definition `cfs`, and so it is in any build that is proved: the contract of `command_set`
 // says that the two are one.
-const ROWS: [Row<'static>; 15] = [
+const ROWS: [Row<'static>; 16] = [
     Row {
         name: "format",
         positionals: &["image", "n", "t", "p"],
-        options: &["layout"],
+        options: &["layout", "most"],
     },
     Row {
         name: "put",
@@ -73,6 +73,11 @@ const ROWS: [Row<'static>; 15] = [
     Row {
         name: "upgrade",
         positionals: &["image"],
+        options: &[],
+    },
+    Row {
+        name: "grow",
+        positionals: &["image", "n"],
         options: &[],
     },
     Row {
@@ -160,6 +165,7 @@ pub(crate) fn read_fields(name: &str, fields: &ArgMatches<'_>) -> Result<Request
         "stat" => Ok(Request::One(Word::Stat)),
         "scrub" => Ok(Request::One(Word::Scrub)),
         "upgrade" => Ok(Request::One(Word::Upgrade)),
+        "grow" => Ok(Request::One(Word::Grow(number_at(fields, "n")?))),
         "dump" => read_dump(fields),
         "restore" => Ok(Request::Restore),
         "script" => Ok(Request::Script),
@@ -176,11 +182,13 @@ fn read_format(fields: &ArgMatches<'_>) -> Result<Request, Cause>
     let third = number_at(fields, "t")?;
     let pages = number_at(fields, "p")?;
     let kind = layout_of(fields)?;
+    let most = number_if_given(fields, "most")?;
     Ok(Request::Format {
         sectors,
         third,
         pages,
         kind,
+        most: most.unwrap_or(0),
     })
 }
 

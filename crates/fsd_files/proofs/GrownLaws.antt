@@ -12,6 +12,7 @@ use Rattle.run_table.specs.declared.run.Run.{Run}
 use Rattle.run_table.specs.RunTable.{run_of, total}
 use Rattle.run_table.specs.Space.{joined, runs_of, where_free}
 use Rattle.run_table.proofs.SectorLaws.{total-cons}
+use Rattle.fsd_files.specs.Answers.{grown}
 use Rattle.fsd_files.specs.Volume.{Volume, free_count, in_version, is_free, waits}
 
 -- ---- runs
@@ -56,10 +57,6 @@ filter_all f a (suc n) h =
     ∙ ap (λ (xs : List ℕ). a ∷ xs) rest
 
 -- ---- the volume
-
--- the volume, with another number of sectors
-abbrev pub grown : ℕ → Volume → Volume
-grown n v = record v { layout = with_sectors n v.layout }
 
 -- Each sector of a version, and each that waits, lies below the end.
 pub record LiesBelow (v : Volume) : Type 0 where

@@ -15,3 +15,4 @@ pub mod ScrubLaws
 pub mod WaitExamples
 pub mod WaitLaws
 pub mod WearLaws
+pub mod FoundLaws

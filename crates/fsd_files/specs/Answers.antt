@@ -1,6 +1,6 @@
 -- What a volume answers, and what the volume is then. What its words and the volume determine is a function; what they
 -- do not is `Met`. Faults of the disk, want of memory and a mount that is worn out stand outside.
-use Rattle.std.specs.Prelude.{ℕ, suc, Bool, List, [], ◌∷◌, ◌++◌, length, map, filter, Option, Some, None, IfSome, is_some, nat_lt, if◌then◌else◌, slice_get}
+use Rattle.std.specs.Prelude.{ℕ, suc, Bool, List, [], ◌∷◌, ◌++◌, length, map, filter, Option, Some, None, IfSome, is_some, nat_lt, if◌then◌else◌, slice_get, nat_le}
 use Rattle.std.specs.List.{flat_map, last_or, AllByRecursion}
 use Rattle.std.specs.FinMap.{find}
 use Rattle.std.specs.FinMap.Entries.{by_order}
@@ -9,11 +9,12 @@ use Rattle.fsd_bytes.specs.declared.key.Key.{Key}
 use Rattle.fsd_bytes.specs.declared.key.Serial.{Serial}
 use Rattle.fsd_bytes.specs.declared.pattern.Pattern.{Pattern}
 use Rattle.fsd_bytes.specs.declared.refusal.Refusal.{Refusal}
-use Rattle.fsd_bytes.specs.declared.refusal.Refusal.TheVariants.{NoSuch, Exists, TooLong, NoSpace, TooFragmented, NameTableFull, VersionsUsedUp, KeepTooLarge, LayoutIs}
+use Rattle.fsd_bytes.specs.declared.refusal.Refusal.TheVariants.{NoSuch, Exists, TooLong, NoSpace, TooFragmented, NameTableFull, VersionsUsedUp, KeepTooLarge, LayoutIs, NotLarger, PastMost}
 use Rattle.fsd_bytes.specs.Keys.{key_cmp, key_lt, same_key, max_u32, fits}
 use Rattle.volume_layout.specs.declared.kind.Kind.{Kind}
 use Rattle.volume_layout.specs.declared.kind.Kind.TheVariants.{Two, Three}
-use Rattle.volume_layout.specs.Layout.{with_kind}
+use Rattle.volume_layout.specs.declared.layout.Layout.{Layout}
+use Rattle.volume_layout.specs.Layout.{most_of, with_kind, with_sectors}
 use Rattle.run_table.specs.declared.run.Run.{Run}
 use Rattle.run_table.specs.RunTable.{sectors_of, total}
 use Rattle.run_table.specs.Space.{best}
@@ -24,7 +25,7 @@ use Rattle.fsd_files.specs.Disk.{Image, Sectors, Has}
 use Rattle.fsd_files.specs.Files.{File, Change, step, new_key, new_keep, gone_keys, moved_keep, gone_by_move}
 use Rattle.fsd_files.specs.Kept.{FirstDamaged, IsWhole, KeptIn, range_sectors}
 use Rattle.fsd_files.specs.declared.reply.Reply.{Reply}
-use Rattle.fsd_files.specs.declared.reply.Reply.TheVariants.{Refused, Made, Deleted, Kept, Moved, Listed, Bytes, DamagedAt, Forced, Counts, Scrubbed, Upgraded, Found, Loaded}
+use Rattle.fsd_files.specs.declared.reply.Reply.TheVariants.{Refused, Made, Deleted, Kept, Moved, Listed, Bytes, DamagedAt, Forced, Counts, Scrubbed, Upgraded, Grown, Found, Loaded}
 use Rattle.fsd_files.specs.Volume.{Volume, plans_of, free_runs, free_count, waiting_count, pages_free, place_for, forced, forced_for_place, forced_if, drawn, entries_at, entries_without}
 
 -- a reply, and the volume as it leaves it
@@ -266,6 +267,23 @@ upgraded Three v = refused v (LayoutIs 2)
 
 abbrev pub upgrade_outcome : Volume → Outcome
 upgrade_outcome v = upgraded v.layout.kind v
+
+-- ---- a growth
+
+-- the volume, of so many sectors in all: those behind the old ones are free
+abbrev pub grown : ℕ → Volume → Volume
+grown n v = record v { layout = with_sectors n v.layout }
+
+-- why a volume of this layout doesn't grow to so many
+abbrev pub grow_fault : Layout → ℕ → Option Refusal
+grow_fault l n = if nat_le n l.sectors then Some (NotLarger n) else (if nat_lt (most_of l) n then Some (PastMost (most_of l)) else None)
+
+abbrev pub grown_unless : Option Refusal → ℕ → Volume → Outcome
+grown_unless (Some why) n v = refused v why
+grown_unless None n v = (Grown n (free_count (grown n v)), grown n v)
+
+abbrev pub grow_outcome : ℕ → Volume → Outcome
+grow_outcome n v = grown_unless (grow_fault v.layout n) n v
 
 -- ---- what changes nothing
 

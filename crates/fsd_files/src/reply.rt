@@ -46,6 +46,11 @@ pub enum Reply {
     },
     /// The volume is one of layout 2 now.
     Upgraded,
+    /// The volume has so many sectors now, so many of them free.
+    Grown {
+        sectors: u32,
+        free: u32,
+    },
     /// A client has begun a version.
     Begun(u32),
     /// It has so many bytes of it.

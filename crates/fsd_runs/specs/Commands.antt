@@ -5,11 +5,11 @@ use Rattle.std.specs.List.{flat_map, list_any}
 use Rattle.fsd_bytes.specs.declared.key.Key.{Key}
 use Rattle.fsd_bytes.specs.Keys.{key_text}
 use Rattle.fsd_formats.specs.NamePage.{max_keep, sectors_for}
-use Rattle.fsd_files.specs.Answers.{Met, Outcome, put_outcome, delete_outcome, keep_outcome, move_outcome, load_outcome, force_outcome, scrub_outcome, upgrade_outcome, stat_reply, list_reply, get_reply, keep_given, size_fault, FindsDamageIn}
+use Rattle.fsd_files.specs.Answers.{Met, Outcome, put_outcome, delete_outcome, keep_outcome, move_outcome, load_outcome, force_outcome, scrub_outcome, upgrade_outcome, grow_outcome, stat_reply, list_reply, get_reply, keep_given, size_fault, FindsDamageIn}
 use Rattle.fsd_files.specs.Disk.{Image}
 use Rattle.fsd_files.specs.Files.{Change}
 use Rattle.fsd_files.specs.declared.reply.Reply.{Reply}
-use Rattle.fsd_files.specs.declared.reply.Reply.TheVariants.{Refused, Made, Deleted, Kept, Moved, Listed, Bytes, DamagedAt, Forced, Counts, Scrubbed, Upgraded, Begun, Took, Dropped, Opened, Given, Done, Found, Loaded}
+use Rattle.fsd_files.specs.declared.reply.Reply.TheVariants.{Refused, Made, Deleted, Kept, Moved, Listed, Bytes, DamagedAt, Forced, Counts, Scrubbed, Upgraded, Grown, Begun, Took, Dropped, Opened, Given, Done, Found, Loaded}
 use Rattle.fsd_files.specs.Scrub.{Picks, all_data}
 use Rattle.fsd_files.specs.Volume.{Volume}
 use Rattle.fsd_texts.specs.declared.command.Command.{Command}
@@ -33,6 +33,7 @@ answer met v Word.Tick = force_outcome v
 answer met v Word.Stat = (stat_reply v, v)
 answer met v Word.Scrub = scrub_outcome met v
 answer met v Word.Upgrade = upgrade_outcome v
+answer met v (Word.Grow sectors) = grow_outcome sectors v
 
 -- A mount that is worn out refuses what would change something, where no refusal comes before this one.
 abbrev pub may_wear_out : Command → Bool
@@ -48,6 +49,7 @@ may_wear_out Word.Tick = false
 may_wear_out Word.Stat = false
 may_wear_out Word.Scrub = false
 may_wear_out Word.Upgrade = false
+may_wear_out (Word.Grow sectors) = false
 
 -- what may read as damaged, between these images
 abbrev pub MayFind : Image → Image → Volume → Command → Met → Type 0
@@ -63,6 +65,7 @@ MayFind i j v Word.Tick met = ⊤
 MayFind i j v Word.Stat met = ⊤
 MayFind i j v Word.Scrub met = Picks i j (all_data v.entries) met.found
 MayFind i j v Word.Upgrade met = ⊤
+MayFind i j v (Word.Grow sectors) met = ⊤
 
 -- the change that was accepted, if one was
 abbrev pub changes_of : Command → Reply → List Change
@@ -83,6 +86,7 @@ changes_of Word.Tick reply = []
 changes_of Word.Stat reply = []
 changes_of Word.Scrub reply = []
 changes_of Word.Upgrade reply = []
+changes_of (Word.Grow sectors) reply = []
 
 -- ---- texts
 
@@ -117,6 +121,7 @@ reply_text (Counts free waiting pages versions) =
     line (codes "stat" ∷ codes "free" ∷ number free ∷ codes "waiting" ∷ number waiting ∷ codes "pages" ∷ number pages ∷ codes "versions" ∷ number versions ∷ [])
 reply_text (Scrubbed found healed) = found_text found ++ line (codes "scrubbed" ∷ codes "healed" ∷ number healed ∷ codes "damaged" ∷ number (length found) ∷ [])
 reply_text Upgraded = line (codes "upgraded" ∷ codes "2" ∷ [])
+reply_text (Grown sectors free) = line (codes "grown" ∷ number sectors ∷ codes "free" ∷ number free ∷ [])
 reply_text (Begun client) = line (codes "begun" ∷ number client ∷ [])
 reply_text (Took client sum) = line (codes "took" ∷ number client ∷ number sum ∷ [])
 reply_text (Dropped client) = line (codes "dropped" ∷ number client ∷ [])
@@ -141,7 +146,7 @@ reply_status (DamagedAt key s) = 8
 reply_status (Scrubbed (x ∷ found) healed) = 8
 reply_status other = 0
 
--- those of the replies that a command may have: a change is made or refused, and so is an upgrade; a version is read, or a
+-- those of the replies that a command may have: a change is made or refused, and so are an upgrade and a growth; a version is read, or a
 -- sector of it is damaged, or the key has none; of what is told, and of a force, nothing is refused; a scrub has found
 -- damaged sectors, or none
 abbrev pub reply_statuses : Command → List ℕ
@@ -157,6 +162,7 @@ reply_statuses Word.Tick = 0 ∷ []
 reply_statuses Word.Stat = 0 ∷ []
 reply_statuses Word.Scrub = 0 ∷ 8 ∷ []
 reply_statuses Word.Upgrade = 0 ∷ 1 ∷ []
+reply_statuses (Word.Grow sectors) = 0 ∷ 1 ∷ []
 
 abbrev pub is_status_of : List ℕ → ℕ → Bool
 is_status_of statuses status = list_any (λ s. s == status) statuses

@@ -21,7 +21,7 @@ use Rattle.fsd_runs.specs.declared.request.Request.TheVariants.{NoCommand, BadFi
 abbrev pub positional : Text → Rule
 positional id = record (new_rule id) { required = true }
 
--- an option with a value, as `--keep K`, `--layout V` and `--bytes B`
+-- an option with a value, as `--keep K`, `--layout V`, `--most Q` and `--bytes B`
 abbrev pub option : Text → Rule
 option id = record (new_rule id) { long = Some id }
 
@@ -35,7 +35,7 @@ image = positional (codes "image")
 abbrev pub cfs : App
 cfs = record {
   top = record (new_shape (codes "cfs")) { is_leaf = false };
-  subs = subcommand (codes "format") (image ∷ positional (codes "n") ∷ positional (codes "t") ∷ positional (codes "p") ∷ option (codes "layout") ∷ [])
+  subs = subcommand (codes "format") (image ∷ positional (codes "n") ∷ positional (codes "t") ∷ positional (codes "p") ∷ option (codes "layout") ∷ option (codes "most") ∷ [])
       ∷ subcommand (codes "put") (image ∷ positional (codes "name") ∷ option (codes "keep") ∷ [])
       ∷ subcommand (codes "get") (image ∷ positional (codes "key") ∷ [])
       ∷ subcommand (codes "list") (image ∷ positional (codes "pat") ∷ [])
@@ -45,6 +45,7 @@ cfs = record {
       ∷ subcommand (codes "stat") (image ∷ [])
       ∷ subcommand (codes "scrub") (image ∷ [])
       ∷ subcommand (codes "upgrade") (image ∷ [])
+      ∷ subcommand (codes "grow") (image ∷ positional (codes "n") ∷ [])
       ∷ subcommand (codes "dump") (image ∷ positional (codes "e") ∷ positional (codes "c") ∷ option (codes "bytes") ∷ [])
       ∷ subcommand (codes "restore") (image ∷ [])
       ∷ subcommand (codes "script") (image ∷ [])
@@ -84,7 +85,8 @@ reads_format rows = do
   t ← number_in (field (codes "t") rows)
   p ← number_in (field (codes "p") rows)
   kind ← layout_in (first_of (codes "layout") rows)
-  Ok (Format n t p kind)
+  most ← if_given (first_of (codes "most") rows)
+  Ok (Format n t p kind (unwrap_or most 0))
 
 abbrev pub reads_put : List Row → Result Request Cause
 reads_put rows = do
@@ -130,12 +132,13 @@ reads_fields name rows =
     else (if same_bytes name (codes "stat") then Ok (One Word.Stat)
     else (if same_bytes name (codes "scrub") then Ok (One Word.Scrub)
     else (if same_bytes name (codes "upgrade") then Ok (One Word.Upgrade)
+    else (if same_bytes name (codes "grow") then (number_in (field (codes "n") rows) >>= λ n. Ok (One (Word.Grow n)))
     else (if same_bytes name (codes "dump") then reads_dump rows
     else (if same_bytes name (codes "restore") then Ok Restore
     else (if same_bytes name (codes "script") then Ok Script
     else (if same_bytes name (codes "generate") then reads_generate rows
     else (if same_bytes name (codes "drill") then Ok Drill
-    else Ok NoCommand))))))))))))))
+    else Ok NoCommand)))))))))))))))
 
 -- ---- the words
 

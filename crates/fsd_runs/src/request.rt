@@ -15,6 +15,7 @@ pub enum Request {
         third: u32,
         pages: u32,
         kind: Kind,
+        most: u32,
     },
     /// The whole input is to be a version of this name.
     Put {

@@ -41,6 +41,8 @@ pub enum Command {
     Scrub,
     /// The volume is one of layout 2 then. No line of a script asks for it.
     Upgrade,
+    /// The volume has so many sectors then. No line of a script asks for it.
+    Grow(u32),
 }
 
 impl Command {

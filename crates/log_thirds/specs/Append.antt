@@ -12,6 +12,7 @@ use Rattle.log_thirds.specs.Copies.{AreLastCopies}
 use Rattle.log_thirds.specs.Firsts.{firsts_with, AreFirsts}
 use Rattle.fsd_log.specs.Slots.{slots_with, AreLastSlots, last_slot, lies_in}
 use Rattle.volume_layout.specs.declared.kind.Kind.{Kind}
+use Rattle.volume_layout.specs.declared.layout.Layout.{Layout}
 use Rattle.volume_layout.specs.Layout.{third_start, with_kind}
 use Rattle.volume_layout.specs.Kinds.{gap_of}
 use Rattle.log_thirds.specs.declared.thirds.Place.{Place}
@@ -60,9 +61,13 @@ pub record IsIndexed (log : LogValue) (records : List Placed) : Type 0 where
 abbrev pub KnowsLast : LogValue → List Placed → Type 0
 KnowsLast log records = AreLastCopies log.layout log.anchor.epoch log.anchor.third records log.copies
 
+-- the log of a volume of this layout
+abbrev pub of_layout : Layout → LogValue → LogValue
+of_layout l log = record { layout = l; anchor = log.anchor; head = log.head; firsts = log.firsts; slots = log.slots; copies = log.copies }
+
 -- the log whose next records have the form of this kind
 abbrev pub of_kind : Kind → LogValue → LogValue
-of_kind kind log = record { layout = with_kind kind log.layout; anchor = log.anchor; head = log.head; firsts = log.firsts; slots = log.slots; copies = log.copies }
+of_kind kind log = of_layout (with_kind kind log.layout) log
 
 -- the log has no page
 abbrev pub HasNoPages : LogValue → Type 0

@@ -78,12 +78,12 @@ impl Log {
     ghost use Rattle.fsd_log.specs.Scan.{Placed, HasRoom, spot_for, place_of};
     ghost use Rattle.log_thirds.specs.LogValue.{FitsLayout};
     ghost use Rattle.fsd_log.specs.Slots.{IsLeastIn, NoneLiesIn};
-    ghost use Rattle.volume_layout.specs.Layout.{third_start};
+    ghost use Rattle.volume_layout.specs.Layout.{third_start, with_sectors};
     ghost use Rattle.log_thirds.specs.Images.{StandsInSlot};
     ghost use Rattle.log_thirds.specs.Giving.{GivesImage, LacksImage, LosesImage, Scans};
     ghost use Rattle.fsd_log.specs.Images.{last_image};
     ghost use Rattle.log_thirds.specs.Copies.{copies_count, IsLast};
-    ghost use Rattle.log_thirds.specs.Append.{Appends, AppendsNone, GoesAt, HasNoPages, IsIndexed, IsLeastOfThird, LeavesLog, NoneOfThird, StandsInPart, WritesRecord, of_kind, stamp_now};
+    ghost use Rattle.log_thirds.specs.Append.{Appends, AppendsNone, GoesAt, HasNoPages, IsIndexed, IsLeastOfThird, LeavesLog, NoneOfThird, StandsInPart, WritesRecord, of_kind, of_layout, stamp_now};
     ghost use Rattle.log_thirds.specs.Anchoring.{AnchorsIn, ClosesIn, with_anchors, with_closed, next_epoch, in_next_epoch};
     ghost use Rattle.log_thirds.specs.Moving.{EndsInLastThird, LeavesMoved, Moves, moved_anchor};
     ghost use Rattle.log_thirds.specs.Reading.{SeesAnchor, SeesLastEpoch, log_failed_at, read_failed_at};
@@ -94,6 +94,14 @@ impl Log {
         ensures { self.new ≡ of_kind kind self.old }
     {
         self.layout = self.layout.with_kind(kind);
+    }
+
+    /// The volume has another number of sectors, and the log lies where it did.
+    pub fn set_layout(&mut self, layout: Layout)
+        requires { layout.now ≡ with_sectors layout.now.sectors self.old.layout }
+        ensures { self.new ≡ of_layout layout.now self.old }
+    {
+        self.layout = layout;
     }
 
     // Finds the end of the log that begins with this anchor's first record.

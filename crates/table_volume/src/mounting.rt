@@ -55,7 +55,7 @@ fn assemble(alloc: Global, settled: SettledVolume, opened: Opened) -> Result<Vol
         map,
         versions,
     } = opened;
-    let Ok(shadow) = Shadow::new(alloc, layout.data_start(), layout.sectors()) else {
+    let Ok(shadow) = Shadow::new(alloc, layout.data_start(), layout.most_sectors()) else {
         return Err(MountFault::Memory);
     };
     let Ok(room) = RecordRoom::new(alloc) else {

@@ -5,6 +5,7 @@ pub mod Mount
 pub mod Causes
 pub mod Found
 pub mod Logged
+pub mod Growth
 pub mod Healing
 pub mod Pieces
 pub mod Upgrade

@@ -9,14 +9,14 @@ use Rattle.run_table.specs.RunTable.{total}
 use Rattle.run_table.specs.Space.{best}
 use Rattle.run_table.specs.declared.run.Run.{Run}
 use Rattle.fsd_formats.specs.NamePage.{max_keep, sectors_for}
-use Rattle.fsd_files.specs.Answers.{size_fault, keep_given, least_pages}
+use Rattle.fsd_files.specs.Answers.{grow_fault, size_fault, keep_given, least_pages}
 use Rattle.fsd_files.specs.Disk.{Sectors}
 use Rattle.volume_contract.specs.State.{State, GoesOn, IsForced, IsDownAt, downs, downs_for, forces_first, forces_for_place, in_place, is_worn, place_in}
 
 -- A step of a call on its way to its answer: a test of what is in memory, or one of the table; a serial that is drawn;
 -- writes of the disk that begin in such sectors; a force, where one comes; a look-up; pages that are made resident;
 -- the data of a version; copies that are healed from their twins; one sector that is read or written; the two roots,
--- written with another layout.
+-- written with another layout, for which the image gets sectors first where it has too few.
 pub data CallStep : Type 0 where
   Test : Option Refusal → CallStep
   Asks : Refusal → CallStep
@@ -234,3 +234,6 @@ module _ (s : State) where
 
   abbrev pub upgrade_steps : List CallStep
   upgrade_steps = down ∷ Test (layout_is s.layout.kind) ∷ Roots ∷ []
+
+  abbrev pub grow_steps : ℕ → List CallStep
+  grow_steps n = down ∷ Test (grow_fault s.layout n) ∷ Roots ∷ []

@@ -4,7 +4,7 @@ ghost use Rattle.std.specs.List.{list_any};
 ghost use Rattle.volume_layout.specs.declared.layout.Layout.{Layout as Plan};
 ghost use Rattle.sector_disk.specs.declared.sector.WeakRun.{WeakRun};
 ghost use Rattle.sector_disk.specs.Image.{AreShort, IsCalm};
-ghost use Rattle.sector_disk.specs.Calls.{HealsDisk, OnlyReads, WritesDisk, device_in};
+ghost use Rattle.sector_disk.specs.Calls.{HealsDisk, OnlyReads, GrowsDisk, WritesDisk, device_in};
 ghost use Rattle.sector_disk.specs.Machine.{Moment, LeavesOnly, wrote};
 ghost use Rattle.std.specs.FinMap.{find as file_of};
 ghost use Rattle.run_table.specs.RunTable.{total};
@@ -20,13 +20,14 @@ ghost use Rattle.fsd_sound.specs.Sound.{is_twin};
 ghost use Rattle.fsd_sound.specs.Mounted.{Mounted, image_at};
 ghost use Rattle.volume_contract.specs.State.{State, Known, Ages, WritesTold, WritesWithin, volume_of, Stands, HasCounted, IsForced as HasForced, HeldVersion, Leaves, put_writes, force_len, change_len, put_len, forces_first, forces_for_place, enters_again};
 ghost use Rattle.fsd_sound.specs.Writes.{force_writes};
-ghost use Rattle.volume_contract.specs.Order.{InOrder, IsDeviceRefusal, KeepsRefused, KeepsBy, put_steps, delete_steps, keep_steps, move_steps, entry_steps, next_steps, read_steps, reserve_steps, slices_steps, enter_steps, held_steps, force_steps, heal_steps, single_steps, upgrade_steps, is_root, with_three, load_steps};
+ghost use Rattle.volume_contract.specs.Order.{InOrder, IsDeviceRefusal, KeepsRefused, KeepsBy, put_steps, delete_steps, keep_steps, move_steps, entry_steps, next_steps, read_steps, reserve_steps, slices_steps, enter_steps, held_steps, force_steps, heal_steps, single_steps, upgrade_steps, grow_steps, is_root, with_three, load_steps};
 ghost use Rattle.volume_contract.specs.Pieces.{IsDraft, IsHeldVersion, KeepsEnter, KeepsReserve, GivesBack, HoldsAt, Unholds, FitsDraft, reserve_len, slice_count, in_slices, in_leader, slices_in, slices_if, read_at, ended, with_opened, refusal_told, EndsReserve, EndsSlices, EndsEnter, EndsHold, ReadsHeld};
 ghost use Rattle.volume_contract.specs.Ends.{Ends, EndsLoad, EndsPut, EndsForce, Closes, LooksUp, found_one, ReadsRange, kept_key, device_of};
 ghost use Rattle.volume_contract.specs.Causes.{Causes};
 ghost use Rattle.volume_contract.specs.Healing.{IsMet, LeavesWith, StandsStill};
 ghost use Rattle.volume_contract.specs.Telling.{TellsEntry, TellsForce, TellsGone, TellsHeld, TellsKept, TellsKey, TellsMoved, TellsLeader, TellsNext, TellsRange, TellsTwins, TellsLoad};
 ghost use Rattle.volume_contract.specs.Upgrade.{EndsUpgrade, RootsStand, is_fresh};
+ghost use Rattle.volume_contract.specs.Growth.{EndsGrow, HasGrown, LeavesGrown, WritesLonger};
 ghost use Rattle.volume_contract.specs.Mount.{MountOpens, MountTells, MountHeals, MountsCalm, IsSoundAt, MountsSound};
 ghost use Rattle.fsd_sound.specs.Mounting.{device_of_mount};
 
@@ -368,6 +369,19 @@ pub trait Files<M: Machine>: Sized {
         ensures state { MatchResult result (λ x. state self.new ≡ with_three (state self.old)) (λ why. KeepsRefused (upgrade_steps (state self.old)) why (state self.old) (state self.new)) }
         ensures roots { OnOk result (M.honest m.new → RootsStand (state self.new) (M.now m.new)) }
         ensures done { M.honest m.new → (k : Known) → Stands state holds self.old k (M.now m.old) → EndsUpgrade state holds k self.new (M.now m.new) result };
+
+    /// Gives the volume so many sectors in all, and answers how many of them are free then. The image has them first, damaged
+    /// ones behind the others; then root 0 says so, and root 4. No more than it has is `NotLarger`, and more than it may
+    /// have `PastMost`, with the most; where the disk fails the volume is down, and sound both by the old number and by
+    /// this one. It takes no memory. The roots are on the disk for certain behind a `sync` of the machine.
+    fn grow(&mut self, m: &mut M, sectors: u32) -> Result<u32, Refusal>
+        requires { (state self.old).layout.sectors ≤ (M.report m.old).sectors }
+        ensures order { InOrder (grow_steps (state self.old) sectors) m.old m.new result }
+        ensures disk { GrowsDisk M.Machine (device_in device_of result) (LeavesGrown state holds self.old is_root) m.old m.new }
+        ensures writes { WritesLonger M.Machine is_root 2 m.old m.new result }
+        ensures state { MatchResult result (λ free. HasGrown sectors free (state self.old) (state self.new) (M.report m.new).sectors) (λ why. KeepsRefused (grow_steps (state self.old) sectors) why (state self.old) (state self.new)) }
+        ensures roots { OnOk result (M.honest m.new → RootsStand (state self.new) (M.now m.new)) }
+        ensures done { M.honest m.new → (k : Known) → Stands state holds self.old k (M.now m.old) → EndsGrow state holds sectors k self.new (M.now m.new) result };
 
     /// Ends the use of a volume by a force. All is on the disk for certain behind a `sync` of the machine.
     fn close(self, m: &mut M) -> Result<(), Refusal>

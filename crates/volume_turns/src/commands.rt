@@ -224,7 +224,7 @@ pub(crate) fn answer<M: Machine, V: Files<M>>(
         Command::List(pattern) => list(alloc, v, m, pattern),
         Command::Stat => count(v, m),
         Command::Scrub => scrub_all(alloc, v, m),
-        Command::Upgrade => unreachable!(),
+        Command::Upgrade | Command::Grow(_) => unreachable!(),
     }
 }
 

@@ -7,6 +7,7 @@ mod calls;
 mod commands;
 mod dumping;
 mod generate;
+mod grow;
 mod input;
 mod line;
 mod listing;

@@ -112,6 +112,7 @@ pub fn alone<M: Machine, V: Files<M> + Drop, T: Says>(
 {
     match c {
         Command::Upgrade => upgrade_alone::<M, V, T>(alloc, v, m),
+        Command::Grow(sectors) => crate::grow::grow_alone::<M, V, T>(alloc, v, m, *sectors),
         _ => answer_alone::<M, V, T>(alloc, v, m, c),
     }
 }
