@@ -15,7 +15,7 @@ use Rattle.fsd_formats.specs.NamePage.{sectors_for, max_keep}
 use Rattle.sector_disk.specs.declared.sector.Sector.{Sector}
 use Rattle.sector_disk.specs.declared.sector.Sector.TheVariants.{Whole, Damaged}
 use Rattle.sector_disk.specs.Image.{sector_at}
-use Rattle.fsd_files.specs.Answers.{Met, Outcome, refused, enter_fault, entered_unless, entered_version, put_at, put_unless, size_fault, keep_given, load_at, load_fault, load_unless, loaded_unless, deleted, keep_set, moved, moved_unless, entry_of, highest_entry, upgraded, got, FindsDamage, FindsDamageIn}
+use Rattle.fsd_files.specs.Answers.{Met, Outcome, refused, enter_fault, entered_unless, entered_version, put_at, put_unless, size_fault, keep_given, load_at, load_fault, load_unless, loaded_unless, deleted, keep_set, moved, moved_unless, entry_of, highest_entry, upgraded, grow_fault, grown_unless, got, FindsDamage, FindsDamageIn}
 use Rattle.fsd_files.specs.Disk.{Image}
 use Rattle.fsd_files.specs.Files.{Change, File, Files, step}
 use Rattle.fsd_files.specs.Kept.{range_sectors}
@@ -143,6 +143,10 @@ upgrade_same : (kind : Kind) (v : Volume) → IsSame v (upgraded kind v).1
 upgrade_same Two v = record { files = refl; reached = refl; held = refl; unforced = omega arith }
 upgrade_same Three v = same_itself v
 
+grow_same : (why : Option Refusal) (n : ℕ) (v : Volume) → IsSame v (grown_unless why n v).1
+grow_same (Some why) n v = same_itself v
+grow_same None n v = record { files = refl; reached = refl; held = refl; unforced = omega arith }
+
 pub does : (met : Met) (v : Volume) (command : Command) → Does met v command (answer met v command)
 does met v (Word.Put name bytes given) = put_does met v name bytes given (size_fault (keep_given given) (length bytes))
 does met v (Word.Load key keep bytes) = load_does met v key keep bytes (size_fault keep (length bytes))
@@ -157,6 +161,11 @@ does met v Word.Force = still met v Word.Force (answer met v Word.Force) refl (s
 does met v Word.Tick = still met v Word.Tick (answer met v Word.Tick) refl (same_forced true v)
 does met v Word.Scrub = still met v Word.Scrub (answer met v Word.Scrub) refl (same_forced true v)
 does met v Word.Upgrade = still met v Word.Upgrade (answer met v Word.Upgrade) refl (upgrade_same v.layout.kind v)
+does met v (Word.Grow n) = still met v (Word.Grow n) (answer met v (Word.Grow n)) (by (grow_fault v.layout n)) (grow_same (grow_fault v.layout n) n v)
+  where
+    by : (why : Option Refusal) → changes_of (Word.Grow n) (grown_unless why n v).0 ≡ []
+    by (Some why) = refl
+    by None = refl
 does met v command = still met v command (answer met v command) refl (same_itself v)
 
 -- a command that is answered by this is a force
@@ -168,6 +177,11 @@ forces_all met v Word.Upgrade e = absurd (by v.layout.kind e)
     by : (kind : Kind) → is_forced (upgraded kind v).0 ≡ true → ⊥
     by Two e = cc
     by Three e = cc
+forces_all met v (Word.Grow n) e = absurd (by (grow_fault v.layout n) e)
+  where
+    by : (why : Option Refusal) → is_forced (grown_unless why n v).0 ≡ true → ⊥
+    by (Some why) e = cc
+    by None e = cc
 forces_all met v (Word.Get key) e = absurd (by (find key_cmp key v.files) met.damaged e)
   where
     by : (o : Option File) (damaged : Option ℕ) → is_forced (got key damaged o) ≡ true → ⊥

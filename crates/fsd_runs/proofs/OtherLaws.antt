@@ -1,4 +1,4 @@
--- No line of a script asks for a scrub or an upgrade, and no command that is made up is one.
+-- No line of a script asks for a scrub, an upgrade or a growth, and no command that is made up is one.
 use Rattle.std.proofs.Common.{◌≡◌, ℕ, zero, suc, ◌+◌, ◌%◌, Bool, true, false, List, [], ◌∷◌, length, take, drop, Option, None, Some, Result, Ok, Err, subst}
 use Rattle.std.specs.Prelude.{◌&&◌, ◌==◌, IfOk, IfSome, codes, nat_le, nat_lt, slice_index, if◌then◌else◌}
 use Rattle.std.specs.List.{AllByRecursion}
@@ -19,10 +19,11 @@ use Rattle.fsd_texts.specs.declared.script_command.ScriptCommand.TheVariants as 
 use Rattle.fsd_texts.specs.Generator.{amount_of, command_of_draw, command_of_kind, draw_of, drawn_kind, made_bytes, made_from, made_name, name_number, next_state}
 use Rattle.fsd_texts.specs.Script.{CommandRead, ◌>>=◌, Script, asked_by, asks, asks_alone, asks_begin, asks_client, asks_keep, asks_lone, asks_move, asks_piece, asks_put, call_with_field, call_with_none, command_at, commands_from, key_in, line_at, lone_in, lone_words, max_line, name_in, needs_more, number_in, pattern_in, script_from, then_more, whole_command, taking_bytes, with_field, with_no_field, words_of}
 
--- another command than a scrub and an upgrade
+-- another command than a scrub, an upgrade and a growth
 abbrev pub IsOther : Command → Type 0
 IsOther Word.Scrub = ⊥
 IsOther Word.Upgrade = ⊥
+IsOther (Word.Grow sectors) = ⊥
 IsOther command = Unit {0}
 
 pub no_scrub : (command : Command) → IsOther command → command ≡ Word.Scrub → ⊥

@@ -16,7 +16,7 @@ use Rattle.fsd_texts.specs.declared.command.Command.TheVariants as Word
 use Rattle.fsd_texts.specs.Generator.{next_state}
 use Rattle.fsd_texts.specs.Text.{format_line, text}
 use Rattle.volume_layout.specs.declared.kind.Kind.TheVariants.{Two, Three}
-use Rattle.volume_layout.specs.Layout.{plan}
+use Rattle.volume_layout.specs.Layout.{plan, plan_most}
 use Rattle.fsd_runs.specs.Errands.{generated}
 use Rattle.fsd_runs.proofs.Plain.{behind, default, fresh, lines, plain, says}
 
@@ -30,6 +30,11 @@ format_says = refl
 format_says_of_2 : text (format_line (plan Three 2048 256 64)) ≡ lines (codes "formatted 2048 free 1127" ∷ [])
 unfolding digits
 format_says_of_2 = refl
+
+format_says_of_more : map (λ planned. text (format_line planned)) (plan_most Two 2048 256 64 8000 ∷ plan_most Two 2048 256 64 2047 ∷ plan_most Two 920 256 64 8000 ∷ [])
+    ≡ map lines ((codes "formatted 2048 free 1125" ∷ []) ∷ (codes "refused most 2047" ∷ []) ∷ (codes "refused too-small 987" ∷ []) ∷ [])
+unfolding digits
+format_says_of_more = refl
 
 too_small : text (format_line (plan Two 720 200 16)) ≡ lines (codes "refused too-small 721" ∷ [])
 unfolding digits

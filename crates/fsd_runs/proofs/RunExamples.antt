@@ -95,6 +95,12 @@ upgraded_already : says (errand_alone Word.Upgrade) three ≡ lines (codes "refu
 unfolding digits
 upgraded_already = refl
 
+-- it grows to the sectors that its map has bits for
+grow_says : map (λ n. says (errand_alone (Word.Grow n)) default) (3969 ∷ 2048 ∷ 3968 ∷ [])
+    ≡ map lines ((codes "refused most 3968" ∷ []) ∷ (codes "refused size 2048" ∷ []) ∷ (codes "grown 3968 free 3047" ∷ []) ∷ [])
+unfolding digits
+grow_says = refl
+
 upgrade_status : map (λ v. reply_status (answer plain v Word.Upgrade).0) (default ∷ three ∷ []) ≡ 0 ∷ 1 ∷ []
 upgrade_status = refl
 

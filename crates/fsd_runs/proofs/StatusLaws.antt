@@ -40,6 +40,7 @@ each_of_reply (Word.Load key keep bytes) = (inl (omega arith), (inl (omega arith
 each_of_reply (Word.Get key) = (inl (omega arith), (inl (omega arith), (inr refl, tt)))
 each_of_reply Word.Scrub = (inl (omega arith), (inr refl, tt))
 each_of_reply Word.Upgrade = (inl (omega arith), (inl (omega arith), tt))
+each_of_reply (Word.Grow sectors) = (inl (omega arith), (inl (omega arith), tt))
 each_of_reply command = (inl (omega arith), tt)
 
 pub of_reply : (command : Command) (status : ℕ) → IsTrue (is_status_of (reply_statuses command) status) → IsOfReply status

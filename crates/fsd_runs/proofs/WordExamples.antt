@@ -9,15 +9,19 @@ use Rattle.fsd_texts.specs.declared.command.Command.TheVariants as Word
 use Rattle.fsd_runs.specs.declared.request.Request.TheVariants.{NoCommand, BadField, Format, Put, One, Script, Generate, Dump, Restore, Drill}
 use Rattle.fsd_runs.specs.Words.{request_of, path_of}
 
-formats : request_of (codes "cfs" ∷ codes "format" ∷ codes "v" ∷ codes "2048" ∷ codes "256" ∷ codes "64" ∷ []) ≡ Format 2048 256 64 Two
+formats : request_of (codes "cfs" ∷ codes "format" ∷ codes "v" ∷ codes "2048" ∷ codes "256" ∷ codes "64" ∷ []) ≡ Format 2048 256 64 Two 0
 unfolding clap_on_literals
 formats = refl
 
-formats_layout_2 : request_of (codes "cfs" ∷ codes "format" ∷ codes "v" ∷ codes "2048" ∷ codes "256" ∷ codes "64" ∷ codes "--layout" ∷ codes "2" ∷ []) ≡ Format 2048 256 64 Three
+formats_to_grow : request_of (codes "cfs" ∷ codes "format" ∷ codes "v" ∷ codes "2048" ∷ codes "256" ∷ codes "64" ∷ codes "--most" ∷ codes "8000" ∷ []) ≡ Format 2048 256 64 Two 8000
+unfolding clap_on_literals
+formats_to_grow = refl
+
+formats_layout_2 : request_of (codes "cfs" ∷ codes "format" ∷ codes "v" ∷ codes "2048" ∷ codes "256" ∷ codes "64" ∷ codes "--layout" ∷ codes "2" ∷ []) ≡ Format 2048 256 64 Three 0
 unfolding clap_on_literals
 formats_layout_2 = refl
 
-formats_layout_1 : request_of (codes "cfs" ∷ codes "format" ∷ codes "--layout=1" ∷ codes "v" ∷ codes "2048" ∷ codes "256" ∷ codes "64" ∷ []) ≡ Format 2048 256 64 Two
+formats_layout_1 : request_of (codes "cfs" ∷ codes "format" ∷ codes "--layout=1" ∷ codes "v" ∷ codes "2048" ∷ codes "256" ∷ codes "64" ∷ []) ≡ Format 2048 256 64 Two 0
 unfolding clap_on_literals
 formats_layout_1 = refl
 
@@ -194,6 +198,14 @@ an_upgrade = refl
 upgrades_to_2_alone : request_of (codes "cfs" ∷ codes "upgrade" ∷ codes "v" ∷ codes "--layout" ∷ codes "2" ∷ []) ≡ NoCommand
 unfolding clap_on_literals
 upgrades_to_2_alone = refl
+
+a_growth : request_of (codes "cfs" ∷ codes "grow" ∷ codes "v" ∷ codes "3968" ∷ []) ≡ One (Word.Grow 3968)
+unfolding clap_on_literals
+a_growth = refl
+
+a_growth_to_no_number : request_of (codes "cfs" ∷ codes "grow" ∷ codes "v" ∷ codes "all" ∷ []) ≡ BadField BadNumber
+unfolding clap_on_literals
+a_growth_to_no_number = refl
 
 dumps : request_of (codes "cfs" ∷ codes "dump" ∷ codes "v" ∷ codes "2" ∷ codes "1" ∷ []) ≡ Dump (record { epoch = 2; count = 1 }) None
 unfolding clap_on_literals

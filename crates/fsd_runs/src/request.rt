@@ -15,6 +15,7 @@ pub enum Request {
         third: u32,
         pages: u32,
         kind: Kind,
+        /// How many sectors it may grow to, or 0 where nothing is said of that.
         most: u32,
     },
     /// The whole input is to be a version of this name.

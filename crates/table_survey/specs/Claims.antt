@@ -1,8 +1,8 @@
 -- Entries whose sectors are taken out of an area.
-use Rattle.std.specs.Prelude.{◌≡◌, ℕ, true, not, ◌&&◌, List, IsTrue}
+use Rattle.std.specs.Prelude.{◌≡◌, ℕ, not, ◌&&◌, List, IsTrue, nat_lt}
 use Rattle.std.specs.List.{flat_map}
 use Rattle.volume_layout.specs.declared.layout.Layout.{Layout}
-use Rattle.volume_layout.specs.Layout.{data_start}
+use Rattle.volume_layout.specs.Layout.{data_start, most_of}
 use Rattle.run_table.specs.RunTable.{sectors_of}
 use Rattle.run_table.specs.Space.{contains, all_differ}
 use Rattle.fsd_formats.specs.declared.entry.Entry.{Entry}
@@ -16,9 +16,9 @@ use Rattle.name_btree.specs.declared.lookup.FoundEntry.{FoundEntry}
 use Rattle.name_btree.specs.Fault.{HasTreeCause, BarsTable}
 use Rattle.sector_set.specs.Area.{Area, area, AreIn}
 
--- the whole data area
+-- the whole data area, in an interval that ends with the most sectors that the volume may grow to
 abbrev pub whole_area : Layout → Area
-whole_area l = area (data_start l) l.sectors (λ s. true)
+whole_area l = area (data_start l) (most_of l) (λ s. nat_lt s l.sectors)
 
 -- the sectors of all entries differ and were in the area, and only they are gone
 pub record IsClaimed (old : Area) (entries : List Entry) (new : Area) : Type 0 where
