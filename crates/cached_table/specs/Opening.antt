@@ -1,8 +1,6 @@
 -- What a mount has of a name table once it is surveyed as it stands at home.
-use Rattle.std.specs.Prelude.{◌≡◌, ⊤, ◌<◌, ◌+◌, ℕ, false, not, List, [], Some, length, replicate, slice_index_or, count_by, nat_lt, ◌&&◌}
+use Rattle.std.specs.Prelude.{◌≡◌, ⊤, ◌<◌, ◌+◌, ℕ, false, not, List, [], Some, length, replicate, slice_index_or, count_by}
 use Rattle.volume_layout.specs.declared.layout.Layout.{Layout}
-use Rattle.volume_layout.specs.Layout.{data_start, most_of}
-use Rattle.sector_set.specs.Area.{area}
 use Rattle.page_cache.specs.Cache.{cached_bytes, no_pages, pins_of}
 use Rattle.table_pages.specs.Kept.{images_given}
 use Rattle.fsd_table.specs.Breaks.{Breaks, BreaksAt}
@@ -14,9 +12,8 @@ use Rattle.fsd_sound.specs.Mounted.{image_at}
 pub use Rattle.fsd_sound.specs.Saved.{is_reached}
 use Rattle.fsd_sound.specs.declared.fault.MountFault.{MountFault}
 use Rattle.fsd_sound.specs.declared.fault.MountFault.TheVariants.{Device, Lost, Memory, Unsound}
-use Rattle.table_survey.specs.Claims.{whole_area}
 use Rattle.cached_table.specs.Homes.{home_by}
-use Rattle.cached_table.specs.Surveying.{IsOfData}
+use Rattle.table_survey.specs.Claims.{IsOfData, data_area, whole_area}
 use Rattle.cached_table.specs.declared.opening.Opened.{Opened}
 use Rattle.cached_table.specs.declared.opening.Room.{Room}
 
@@ -63,7 +60,7 @@ pub record IsTableOf (l : Layout) (pages : List (List ℕ)) (o : Opened) : Type 
   pub whole : (page : ℕ) → Breaks l pages page → ⊥
   pub versions : length telling.entries ≡ o.versions
   pub apart : Apart l (plans_of telling.entries)
-  pub map : o.map ≡ area (data_start l) (most_of l) (λ s. nat_lt s l.sectors && not (is_in (plans_of telling.entries) s))
+  pub map : o.map ≡ data_area l (λ s. not (is_in (plans_of telling.entries) s))
   pub free_pages : (page : ℕ) → page < l.pages → slice_index_or o.free_pages page false ≡ not (is_reached pages page)
   pub spare : count_by (λ free. free) o.free_pages + telling.reached ≡ l.pages
   pub inside : (page : ℕ) (bytes : List ℕ) → cached_bytes o.cache page ≡ Some bytes → page < l.pages

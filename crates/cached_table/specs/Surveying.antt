@@ -1,9 +1,8 @@
 -- What a survey leaves of a cache, and why one fails.
-use Rattle.std.specs.Prelude.{◌≡◌, ◌⊎◌, ℕ, ◌<◌, Bool, IsTrue, List, Option, length, count_by}
+use Rattle.std.specs.Prelude.{◌≡◌, ◌⊎◌, ℕ, ◌<◌, Bool, List, Option, length, count_by}
 use Rattle.fsd_bytes.specs.declared.refusal.Refusal.{Refusal}
 use Rattle.fsd_bytes.specs.declared.refusal.Refusal.TheVariants as Why
 use Rattle.volume_layout.specs.declared.layout.Layout.{Layout}
-use Rattle.volume_layout.specs.Layout.{data_start, most_of}
 use Rattle.sector_disk.specs.declared.machine.Machine.{Ghosts as MachineGhosts}
 use Rattle.sector_disk.specs.Calls.{OnlyReads}
 use Rattle.page_cache.specs.declared.source.PageSource.{Ghosts as SourceGhosts}
@@ -20,13 +19,8 @@ use Rattle.name_page.specs.Pages.{IsOuter}
 use Rattle.name_btree.specs.declared.fault.TreeFault.{TreeFault}
 use Rattle.name_btree.specs.declared.fault.TreeFault.TheVariants.{Pages, Broken}
 use Rattle.cached_table.specs.Looking.{BarsPages, images_by, refusal_in}
-use Rattle.run_table.specs.Space.{contains}
-use Rattle.sector_set.specs.Area.{Area, area}
-
--- The set is of sectors of the data area, and its interval ends with the most sectors that the volume may grow to.
-pub record IsOfData (l : Layout) (m : Area) : Type 0 where
-  pub own : m ≡ area (data_start l) (most_of l) (contains m.sectors)
-  pub below : (s : ℕ) → IsTrue (contains m.sectors s) → s < l.sectors
+use Rattle.sector_set.specs.Area.{Area}
+use Rattle.table_survey.specs.Claims.{IsOfData}
 
 -- where it is trusted, the page of so many that the fault names breaks the table, or is barred from it;
 -- or the outside has refused one

@@ -1,5 +1,5 @@
 -- Entries whose sectors are taken out of an area.
-use Rattle.std.specs.Prelude.{◌≡◌, ℕ, not, ◌&&◌, List, IsTrue, nat_lt}
+use Rattle.std.specs.Prelude.{◌≡◌, ℕ, Bool, true, not, ◌&&◌, List, IsTrue, nat_lt}
 use Rattle.std.specs.List.{flat_map}
 use Rattle.volume_layout.specs.declared.layout.Layout.{Layout}
 use Rattle.volume_layout.specs.Layout.{data_start, most_of}
@@ -16,9 +16,17 @@ use Rattle.name_btree.specs.declared.lookup.FoundEntry.{FoundEntry}
 use Rattle.name_btree.specs.Fault.{HasTreeCause, BarsTable}
 use Rattle.sector_set.specs.Area.{Area, area, AreIn}
 
--- the whole data area, in an interval that ends with the most sectors that the volume may grow to
+-- the sectors of the data area that pass the test; the interval has room for the most sectors that the volume may grow to
+abbrev pub data_area : Layout → (ℕ → Bool) → Area
+data_area l test = area (data_start l) (most_of l) (λ s. nat_lt s l.sectors && test s)
+
+-- the whole data area
 abbrev pub whole_area : Layout → Area
-whole_area l = area (data_start l) (most_of l) (λ s. nat_lt s l.sectors)
+whole_area l = data_area l (λ s. true)
+
+-- the set is of sectors of the data area
+abbrev pub IsOfData : Layout → Area → Type 0
+IsOfData l m = m ≡ data_area l (contains m.sectors)
 
 -- the sectors of all entries differ and were in the area, and only they are gone
 pub record IsClaimed (old : Area) (entries : List Entry) (new : Area) : Type 0 where

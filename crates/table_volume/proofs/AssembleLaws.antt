@@ -12,7 +12,7 @@ use Rattle.table_volume.specs.Mounting.{assembled, no_area, none_waits}
 use Rattle.cached_table.specs.Opening.{IsOpened}
 use Rattle.volume_laws.specs.Volume.{IsWholeVolume}
 use Rattle.volume_laws.proofs.FreeLaws.{nothing}
-use Rattle.cached_table.specs.Surveying.{IsOfData}
+use Rattle.table_survey.specs.Claims.{IsOfData}
 use Rattle.cached_table.specs.declared.opening.Opened.{Opened}
 
 -- ---- no sector

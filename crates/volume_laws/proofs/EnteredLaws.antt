@@ -41,7 +41,7 @@ use Rattle.cached_table.specs.Entering.{with_gone}
 use Rattle.volume_laws.specs.Placing.{IsPlace}
 use Rattle.volume_laws.specs.State.{IsMemoryOf, state}
 use Rattle.volume_laws.specs.Volume.{IsWholeVolume, VolumeValue}
-use Rattle.cached_table.specs.Surveying.{IsOfData}
+use Rattle.table_survey.specs.Claims.{IsOfData}
 use Rattle.volume_laws.proofs.ChangeLaws.{stands_changed}
 use Rattle.volume_laws.proofs.EnteredSpace.{made, made_count, made_free, made_kept, made_there, made_waits}
 use Rattle.volume_laws.proofs.MadeLaws.{has_table, pages_made, pages_now, worn}

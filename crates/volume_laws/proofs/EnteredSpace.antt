@@ -28,7 +28,7 @@ use Rattle.fsd_files.proofs.MoveLaws.{entry_put_there, weight, weight_length, we
 use Rattle.version_table.specs.declared.oldest.Leaving.{Leaving}
 use Rattle.version_table.specs.Met.{entries_left}
 use Rattle.cached_table.specs.Entering.{with_gone}
-use Rattle.cached_table.specs.Surveying.{IsOfData}
+use Rattle.table_survey.specs.Claims.{IsOfData}
 use Rattle.volume_laws.proofs.DeleteLaws.{split_count}
 use Rattle.volume_laws.proofs.GoneLaws.{split_in}
 

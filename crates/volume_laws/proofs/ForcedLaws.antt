@@ -19,7 +19,7 @@ use Rattle.group_commit.specs.Room.{goes_before, log_before}
 use Rattle.group_commit.proofs.CachedLaws.{before_layout}
 use Rattle.group_commit.proofs.FrameLaws.{held_then}
 use Rattle.volume_laws.specs.Volume.{IsWholeVolume, VolumeValue, WaitsOnce}
-use Rattle.cached_table.specs.Surveying.{IsOfData}
+use Rattle.table_survey.specs.Claims.{IsOfData}
 use Rattle.volume_laws.proofs.FreeLaws.{nothing}
 
 -- ---- the log

@@ -13,7 +13,7 @@ use Rattle.shadow_frees.specs.Waits.{AreIdle, Waits, waits_in}
 use Rattle.volume_laws.specs.Ending.{GivesUp, Waited}
 use Rattle.volume_laws.specs.Taken.{are_taken}
 use Rattle.volume_laws.specs.Volume.{IsWholeVolume, VolumeValue, WaitsOnce}
-use Rattle.cached_table.specs.Surveying.{IsOfData}
+use Rattle.table_survey.specs.Claims.{IsOfData}
 use Rattle.volume_laws.proofs.ForcedLaws.{own_of}
 use Rattle.volume_laws.proofs.TakenLaws.{taken_is_out}
 

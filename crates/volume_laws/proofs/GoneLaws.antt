@@ -37,7 +37,7 @@ use Rattle.fsd_files.proofs.ListingLaws.{alike_is, deletes_listed, keeps_listed,
 use Rattle.fsd_formats.specs.NamePage.{max_keep}
 use Rattle.name_page.proofs.PutLaws.{ascend_head}
 use Rattle.volume_laws.specs.Changing.{IsAfter}
-use Rattle.cached_table.specs.Surveying.{IsOfData}
+use Rattle.table_survey.specs.Claims.{IsOfData}
 
 -- ---- the entry with a key
 

@@ -21,7 +21,7 @@ use Rattle.volume_contract.specs.State.{State}
 use Rattle.cached_table.specs.Entering.{AreInTurn, RefusesFor, with_gone}
 use Rattle.volume_laws.specs.Entered.{entering_steps}
 use Rattle.volume_laws.specs.Volume.{IsWholeVolume, VolumeValue, WaitsOnce}
-use Rattle.cached_table.specs.Surveying.{IsOfData}
+use Rattle.table_survey.specs.Claims.{IsOfData}
 use Rattle.volume_laws.proofs.EnteredSpace.{gone_at, in_first}
 use Rattle.volume_laws.proofs.PieceLaws.{of_test}
 

@@ -29,7 +29,7 @@ use Rattle.volume_contract.specs.Order.{with_drawn}
 use Rattle.volume_laws.specs.Placing.{IsPlace, drawn_known, drawn_volume}
 use Rattle.volume_laws.specs.State.{IsMemoryOf, state}
 use Rattle.volume_laws.specs.Volume.{IsWholeVolume, VolumeValue}
-use Rattle.cached_table.specs.Surveying.{IsOfData}
+use Rattle.table_survey.specs.Claims.{IsOfData}
 use Rattle.volume_laws.proofs.ForcedLaws.{own_of}
 use Rattle.volume_laws.proofs.OpenedLaws.{each_zip, zip_each, free_again, free_more, in_fewer, mounted_fewer, mounted_more, reopen, drafts_more}
 use Rattle.volume_laws.proofs.WrittenLaws.{stands_drawn}

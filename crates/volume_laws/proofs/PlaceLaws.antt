@@ -29,7 +29,7 @@ use Rattle.volume_contract.specs.State.{State}
 use Rattle.volume_laws.specs.Placing.{IsPlace, place_now, place_or}
 use Rattle.volume_laws.specs.State.{state}
 use Rattle.volume_laws.specs.Volume.{IsWholeVolume, VolumeValue}
-use Rattle.cached_table.specs.Surveying.{IsOfData}
+use Rattle.table_survey.specs.Claims.{IsOfData}
 
 -- ---- what the code chooses is what the definitions do
 

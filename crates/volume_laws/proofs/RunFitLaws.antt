@@ -16,7 +16,7 @@ use Rattle.sector_set.proofs.AreaLaws.{free_within}
 use Rattle.sector_set.proofs.FreeLaws.{contains_range}
 use Rattle.fsd_formats.specs.declared.entry.Entry.{Entry}
 use Rattle.fsd_formats.specs.NamePage.{is_entry, max_keep, max_length, sectors_for}
-use Rattle.cached_table.specs.Surveying.{IsOfData}
+use Rattle.table_survey.specs.Claims.{IsOfData}
 
 first_in : (r : Run) (runs : List Run) → 1 ≤ r.length → contains (sectors_of (r ∷ runs)) r.start ≡ true
 first_in r runs some =

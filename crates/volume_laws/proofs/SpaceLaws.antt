@@ -19,7 +19,7 @@ use Rattle.fsd_files.proofs.WaitLaws.{version_stays}
 use Rattle.volume_laws.specs.State.{freed_sectors}
 use Rattle.volume_contract.specs.State.{held_runs}
 use Rattle.volume_laws.specs.Volume.{IsWholeVolume, VolumeValue}
-use Rattle.cached_table.specs.Surveying.{IsOfData}
+use Rattle.table_survey.specs.Claims.{IsOfData}
 
 -- lists with the same sectors are empty together
 same_empty : (xs ys : List ℕ) → ((s : ℕ) → contains xs s ≡ contains ys s) → (length xs == 0) ≡ (length ys == 0)

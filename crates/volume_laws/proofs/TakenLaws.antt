@@ -34,7 +34,7 @@ use Rattle.volume_laws.specs.State.{IsMemoryOf, state}
 use Rattle.volume_contract.specs.State.{held_of, held_runs}
 use Rattle.volume_laws.specs.Taken.{are_taken, is_taken}
 use Rattle.volume_laws.specs.Volume.{IsWholeVolume, VolumeValue}
-use Rattle.cached_table.specs.Surveying.{IsOfData}
+use Rattle.table_survey.specs.Claims.{IsOfData}
 
 -- ---- each sector of a list
 

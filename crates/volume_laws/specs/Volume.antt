@@ -10,7 +10,7 @@ use Rattle.shadow_frees.specs.Waits.{Waits, waits_in}
 use Rattle.group_commit.specs.Cached.{AreWaiting}
 use Rattle.log_thirds.specs.LogValue.{LogValue}
 use Rattle.page_cache.specs.Cache.{CacheValue, pins_of}
-use Rattle.cached_table.specs.Surveying.{IsOfData}
+use Rattle.table_survey.specs.Claims.{IsOfData}
 use Rattle.cached_table.specs.Opening.{frames}
 
 -- The layout, the free sectors, those that wait, the log, the pages in memory, a flag for each page whether it is free,
