@@ -93,9 +93,9 @@ Left l windows run h f n turns old left = LeftBefore l windows h f old left ⊎ 
 -- ---- how a run ends
 
 -- The whole text is said, its status is given, and all changes are forced: the disk's own table is that of the volume
--- behind them, in the places and with the serials that it gave, and both roots are those of its layout, which an upgrade
--- has turned. Whichever of the moments since the last sync is on the disk has all of the changes too, and these roots. The
--- present window is run still.
+-- behind them, in the places and with the serials that it gave, and both roots are those of its layout, another one
+-- behind an upgrade or a growth. Whichever of the moments since the last sync is on the disk has all of the changes too, and
+-- these roots. The present window is run still.
 pub record IsReplied (l : Layout) (windows : List WeakRun) (run : WeakRun) (h : List Change) (n : ℕ) (turns : List Turn) (status : ℕ) (behind : Volume) (Held : (Moment → Type 0) → Type 0) (old new : Moment) (result : ℕ) : Type 0 where
   pub ends : result ≡ status
   pub said : new.said ≡ old.said ++ said_in turns
@@ -230,7 +230,8 @@ pub record RaisesEpoch (windows : List WeakRun) (old from : Image) : Type 0 wher
 -- the image as it settled, in which both roots were its layout's. The window that it settled is next: it was named since
 -- the run began, and is the present one at each moment from then on and at the end. What a stop leaves is what is said
 -- above; from that time on it is of the second kind. Where one command by itself has begun to say its reply, both roots are
--- those of the layout behind it, which an upgrade has turned. The images of the run are of its moments, as reads show them.
+-- those of the layout behind it, another one behind an upgrade or a growth. The images of the run are of its moments, as
+-- reads show them.
 -- Either all commands were begun, all is said and all changes are forced; or a fault from outside has ended the run at once;
 -- or the output failed. Held is what each moment since the last sync has.
 pub record LeavesMounted (request : Request) (input rest : List ℕ) (l : Layout) (windows : List WeakRun) (h : List Change) (f : ℕ) (Past Stops : ℕ → Moment → Type 0) (began : ℕ) (Only Held : (Moment → Type 0) → Type 0) (before after : Report) (old new : Moment) (result : ℕ) : Type 0 where

@@ -211,19 +211,19 @@ module _ (l : Layout) (weak : Sectors) (i : Image) (s : ℕ) (at : (s ≡ 0) ⊎
 
   rooted_roots : (roots : HasRoots l weak i) → roots.other ≡ o → HasRoots l weak (with_sector i s bytes)
   rooted_roots roots same_other =
-    let is : IsRootOf l roots.other bytes = subst (λ (x : Layout). IsRootOf l x bytes) (sym same_other) is in
-    record {
-    planned = roots.planned;
-    other = roots.other;
-    beside = roots.beside;
-    some = ⊎_elim (λ first. inl (bytes, ap (sector_at (with_sector i s bytes)) (sym first) ∙ root_is, is)) (λ second. inr (bytes, ap (sector_at (with_sector i s bytes)) (sym second) ∙ root_is, is)) at;
-    first = root_alike (IsRootOf l roots.other) is 0 roots.first;
-    second = root_alike (IsRootOf l roots.other) is 4 roots.second;
-    fits = omega (arith, roots.fits, length-set i s (Whole bytes));
-    twins = λ p twin hurt. ⊎_elim
-        (λ here. absurd (not_damaged (sector_at (with_sector i s bytes) s) bytes root_is (ap (sector_at (with_sector i s bytes)) (sym here) ∙ hurt)))
-        (λ other. roots.twins p twin (sym (with_other i s p bytes other) ∙ hurt)) (same_or p s);
-  }
+      let is : IsRootOf l roots.other bytes = subst (λ (x : Layout). IsRootOf l x bytes) (sym same_other) is in
+      record {
+        planned = roots.planned;
+        other = roots.other;
+        beside = roots.beside;
+        some = ⊎_elim (λ first. inl (bytes, ap (sector_at (with_sector i s bytes)) (sym first) ∙ root_is, is)) (λ second. inr (bytes, ap (sector_at (with_sector i s bytes)) (sym second) ∙ root_is, is)) at;
+        first = root_alike (IsRootOf l roots.other) is 0 roots.first;
+        second = root_alike (IsRootOf l roots.other) is 4 roots.second;
+        fits = omega (arith, roots.fits, length-set i s (Whole bytes));
+        twins = λ p twin hurt. ⊎_elim
+            (λ here. absurd (not_damaged (sector_at (with_sector i s bytes) s) bytes root_is (ap (sector_at (with_sector i s bytes)) (sym here) ∙ hurt)))
+            (λ other. roots.twins p twin (sym (with_other i s p bytes other) ∙ hurt)) (same_or p s);
+      }
 
   behind_root : (p : ℕ) → 8 ≤ p → sector_at (with_sector i s bytes) p ≡ sector_at i p
   behind_root p from = with_other i s p bytes (λ e. elim at [ inl a ↦ omega (arith, a, e, from) | inr b ↦ omega (arith, b, e, from) ])

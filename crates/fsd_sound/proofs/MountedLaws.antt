@@ -232,8 +232,8 @@ force_sound m windows h f i j now is same opened told shows =
       leaders = is.forced.leaders;
     } in
     let tells = λ (pages : List (List ℕ)) (two : Contains (is.disk ∷ now ∷ []) pages). first_or_second (λ pages. Tells l (in_runs windows) j h f (told_in pages)) is.disk now pages
-        (tells_forced m.volume windows h f j is.disk le forced)
-        (tells_all m.volume windows h f j now le is.files told (describes_data l (in_runs windows) m.volume.files m.volume.entries i j same is.described)) two in
+    (tells_forced m.volume windows h f j is.disk le forced)
+    (tells_all m.volume windows h f j now le is.files told (describes_data l (in_runs windows) m.volume.files m.volume.entries i j same is.described)) two in
     sound_from_pages l windows h f (is.disk ∷ now ∷ []) j shows tells (λ pages two. open_saves l j pages opened)
 
 -- and so it is while it shows what was forced alone

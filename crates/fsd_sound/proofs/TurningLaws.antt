@@ -57,7 +57,7 @@ module _ (m : Mounted) (windows : List WeakRun) (h : List Change) (f : ℕ) (i :
     own_turned =
         let a = own_anchor m.volume.layout windows (is.disk ∷ []) m.anchor is.records m.head i is.over.shows is.over.own in
         let own_two = own_log_turned m.volume.layout m.anchor m.head (weak_of windows) i end a.epoch a.first is.third (λ s from within. two_same m windows h f i is k (inl refl) may_turn (λ s there. there) s (omega (arith, from)))
-            (two_roots m windows h f i is k (inl refl) may_turn (λ s there. there)) own_empty in
+        (two_roots m windows h f i is k (inl refl) may_turn (λ s there. there)) own_empty in
         own_worn k few m.anchor a.epoch is.third (weak_of windows) (borne_apart k windows both) end j worn_two [] m.head own_two
 
     shows_now : ShowsPages k windows (is.disk ∷ []) j

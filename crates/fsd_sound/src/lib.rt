@@ -9,7 +9,7 @@ mod mount_laws;
 
 pub use fault::MountFault;
 pub use home_laws::{
-    homes_may_be_mended, logged_homes_may_be_written, roots_may_be_mended, roots_may_be_beside,
+    homes_may_be_mended, logged_homes_may_be_written, roots_may_be_beside, roots_may_be_mended,
     shown_pages_stand,
 };
 pub use laws::{

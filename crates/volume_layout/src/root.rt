@@ -27,7 +27,13 @@ pub fn read_root(b: &[u8; 512]) -> Option<Layout>
     ensures { result ≡ read_root b.now }
 {
     let kind = kind_of(u32_at(b, 4));
-    match Layout::plan_as(kind, u32_at(b, 8), u32_at(b, 12), u32_at(b, 16), u32_at(b, 20)) {
+    match Layout::plan_as(
+        kind,
+        u32_at(b, 8),
+        u32_at(b, 12),
+        u32_at(b, 16),
+        u32_at(b, 20),
+    ) {
         Ok(l) => if root_bytes(&l) == *b { Some(l) } else { None },
         Err(_) => None,
     }
