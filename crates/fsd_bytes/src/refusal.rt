@@ -7,7 +7,7 @@ pub enum Refusal {
     /// The key is no version, or the name has none.
     #[error("no such version")]
     NoSuch,
-    /// More bytes than a version may have: so many. For a dump: so many are needed, and that is more than it may have.
+    /// More bytes than a version may have: so many. Of a dump: so many does it need at least, and it may not have them.
     #[error("{0} bytes are too many for a version")]
     TooLong(u64),
     /// The key is a version already.
@@ -34,7 +34,7 @@ pub enum Refusal {
     /// The place of a call of the disk that failed.
     #[error("the device failed at {0}")]
     Device(u32),
-    /// An earlier force, or an earlier write of the roots, failed at this place.
+    /// An earlier force, upgrade or growth failed at this place.
     #[error("the volume is down since the device failed at {0}")]
     Down(u32),
     /// Both copies of what stands twice are damaged.
@@ -67,8 +67,8 @@ pub enum Refusal {
     /// The volume has layout 2 already.
     #[error("the volume has layout {0} already")]
     LayoutIs(u32),
-    /// The volume has so many sectors already.
-    #[error("the volume has {0} sectors already")]
+    /// The volume has so many sectors already, or more.
+    #[error("the volume has {0} sectors or more already")]
     NotLarger(u32),
     /// The most sectors that the volume may grow to.
     #[error("the volume may grow to {0} sectors at most")]
