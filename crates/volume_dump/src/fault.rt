@@ -1,6 +1,6 @@
 //! Why a dump is not said, or not to its end.
 ghost use Rattle.std.specs.Prelude.{◌≡◌};
-ghost use Rattle.volume_dump.specs.Told.{told_as};
+ghost use Rattle.volume_dump.specs.Told.{is_cut, told_as};
 
 use fsd_bytes::{Key, Refusal};
 use thiserror::Error;
@@ -8,7 +8,9 @@ use thiserror::Error;
 /// Why a dump is not said, or not to its end.
 #[derive(Debug, Drop, Error)]
 pub enum DumpFault {
-    /// The volume is down, the device has failed, or the name table is lost or unsound.
+    /// The volume is down, the device has failed, both copies of what stands twice are damaged (the root's, the anchor's,
+    /// or a name page's), a page breaks the name table, or pages that have changed lack a version at the second reading:
+    /// Down, Device, Lost, Unsound or NoSuch, and no other. A volume that stands gives Device alone.
     #[error("{0}")]
     Refused(Refusal),
     /// These data sectors are damaged, by key and then by place in the file. Nothing was said.
@@ -35,4 +37,11 @@ pub(crate) fn fault_of(why: Refusal) -> DumpFault
         Refusal::Damaged(s) => DumpFault::Cut(s),
         other => DumpFault::Refused(other),
     }
+}
+
+/// Whether it tells a damaged sector.
+pub(crate) fn is_cut(fault: &DumpFault) -> bool
+    ensures { result ≡ is_cut fault.now }
+{
+    matches!(fault, DumpFault::Cut(_))
 }
