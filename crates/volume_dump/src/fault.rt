@@ -1,6 +1,6 @@
 //! Why a dump is not said, or not to its end.
 ghost use Rattle.std.specs.Prelude.{◌≡◌};
-ghost use Rattle.volume_dump.specs.Told.{is_cut, told_as};
+ghost use Rattle.volume_dump.specs.Told.{told_as};
 
 use fsd_bytes::{Key, Refusal};
 use thiserror::Error;
@@ -37,11 +37,4 @@ pub(crate) fn fault_of(why: Refusal) -> DumpFault
         Refusal::Damaged(s) => DumpFault::Cut(s),
         other => DumpFault::Refused(other),
     }
-}
-
-/// Whether it tells a damaged sector.
-pub(crate) fn is_cut(fault: &DumpFault) -> bool
-    ensures { result ≡ is_cut fault.now }
-{
-    matches!(fault, DumpFault::Cut(_))
 }
