@@ -32,6 +32,7 @@ use Rattle.twin_home.specs.Heal.{RootsIn}
 use Rattle.volume_contract.specs.Growth.{LeavesLonger, grown_known}
 use Rattle.volume_contract.specs.Order.{Comes, Roots, Test, grow_steps, is_idle, is_root}
 use Rattle.volume_contract.specs.State.{Known, StandWritten, Stands, State, forced_of}
+use Rattle.volume_laws.specs.Grown.{value_grown}
 use Rattle.volume_laws.specs.State.{IsMemoryOf, state}
 use Rattle.volume_laws.specs.Volume.{IsWholeVolume, VolumeValue}
 use Rattle.volume_laws.specs.WearLaws.{stands_worn}
@@ -39,7 +40,7 @@ use Rattle.volume_laws.proofs.GrowthLaws.{memory_grown, whole_grown}
 use Rattle.volume_laws.proofs.ListLaws.{lists_of}
 use Rattle.volume_laws.proofs.SpaceLaws.{same_free, same_freed, same_unfinished, same_waiting}
 use Rattle.table_volume.proofs.UpgradeLaws.{roots_touch}
-use Rattle.table_volume.specs.Growing.{GrowsRoots, grow_tests, longer, value_grown}
+use Rattle.table_volume.specs.Growing.{GrowsRoots, grow_tests, longer}
 
 -- ---- the tests
 

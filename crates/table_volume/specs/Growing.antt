@@ -1,16 +1,11 @@
 -- Growth of a volume, in its parts.
 use Rattle.std.specs.Prelude.{◌⊎◌, ℕ, List, [], ◌∷◌}
-use Rattle.volume_layout.specs.Layout.{with_sectors}
 use Rattle.sector_disk.specs.Image.{extended}
 use Rattle.sector_disk.specs.Machine.{Moment, Wears}
 use Rattle.fsd_files.specs.Answers.{grow_fault}
-use Rattle.sector_set.specs.Area.{together}
-use Rattle.shadow_frees.specs.Waits.{run_between}
-use Rattle.log_thirds.specs.Append.{of_layout}
 use Rattle.twin_home.specs.Heal.{RootsIn}
 use Rattle.volume_contract.specs.Order.{CallStep, Test, down}
 use Rattle.volume_contract.specs.State.{State}
-use Rattle.volume_laws.specs.Volume.{VolumeValue}
 
 -- what is tested of a growth to so many sectors
 abbrev pub grow_tests : State → ℕ → List CallStep
@@ -24,11 +19,3 @@ longer n old = record old { image = extended n old.image }
 -- or at both; nothing else was written.
 abbrev pub GrowsRoots : ℕ → List ℕ → Moment → Moment → Type 0
 GrowsRoots n bytes old left = Wears old left ⊎ RootsIn bytes (longer n old) left
-
--- the volume of so many sectors: those behind the old ones are free
-abbrev pub value_grown : ℕ → VolumeValue → VolumeValue
-value_grown n v = record v {
-  layout = with_sectors n v.layout;
-  map = together v.map (run_between (v.layout.sectors, n) ∷ []);
-  log = of_layout (with_sectors n v.layout) v.log;
-}

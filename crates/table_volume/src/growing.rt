@@ -8,8 +8,9 @@ ghost use Rattle.sector_disk.specs.Machine.{Holds};
 ghost use Rattle.fsd_files.specs.Answers.{grow_fault};
 ghost use Rattle.volume_contract.specs.Order.{Follows, is_root};
 ghost use Rattle.volume_contract.specs.State.{Counted};
+ghost use Rattle.volume_laws.specs.Grown.{value_grown};
 ghost use Rattle.volume_laws.specs.State.{state};
-ghost use Rattle.table_volume.specs.Growing.{GrowsRoots, grow_tests, longer, value_grown};
+ghost use Rattle.table_volume.specs.Growing.{GrowsRoots, grow_tests, longer};
 
 use crate::Volume;
 use crate::freeing::release_between;
