@@ -23,7 +23,7 @@ returns-in-Err-clause-refused g c =
     let now = c.plan_move.new.t in
     let key = c.args.key.now in
     let name = c.args.name.now in
-    let map = up_to c.args.end c.args.map.now in
+    let map = up_to c.args.l.now.sectors c.args.map.now in
     let w = c.args.shadow.now in
     let cause = c.in-Err.ensures.failed.cause in
     subst (RefusesAt P map w name (LacksNumber key name) c.args.home_a a now) (sym c.plan_refusal.ensures) (record {
@@ -61,7 +61,7 @@ returns-in-Ok-enter_planned-clause-moved g c =
     let a = c.args.t.now in
     let now = c.plan_move.new.t in
     let new = c.enter_planned.new.t in
-    let map = up_to c.args.end c.args.map.now in
+    let map = up_to c.args.l.now.sectors c.args.map.now in
     let w = c.args.shadow.now in
     let plan : Plan = record { key = c.in-Ok.plan.key; keep = c.in-Ok.plan.keep; gone = c.in-Ok.plan.gone } in
     let formed = c.in-Ok.ensures.formed in
@@ -88,7 +88,7 @@ returns-in-Err-enter_planned-clause-refused g c =
     let new = c.enter_planned.new.t in
     let key = c.args.key.now in
     let name = c.args.name.now in
-    let map = up_to c.args.end c.args.map.now in
+    let map = up_to c.args.l.now.sectors c.args.map.now in
     let w = c.args.shadow.now in
     let plan : Plan = record { key = c.in-Ok.plan.key; keep = c.in-Ok.plan.keep; gone = c.in-Ok.plan.gone } in
     let e = c.in-Ok.ensures in

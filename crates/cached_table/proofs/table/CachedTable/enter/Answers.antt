@@ -38,7 +38,7 @@ returns-clause-entered g c =
 pub returns-clause-refused : goal.returns-clause-refused
 returns-clause-refused g c =
     let r = c.enter_at-done.result in
-    let map = up_to c.args.end c.args.map.now in
+    let map = up_to c.args.l.now.sectors c.args.map.now in
     let w = c.args.shadow.now in
     let e = c.enter_at-done.ensures.refused in
     let walks = refused_walks _ map w c.args.name.now (HasNoNumber c.args.name.now) c.args.home_a c.new-table.result c.enter_at-done.new.t r e in

@@ -54,7 +54,7 @@ returns-clause-there g c = λ is.
 pub returns-clause-refused : goal.returns-clause-refused
 returns-clause-refused g c =
     let r = c.load_at-done.result in
-    let map = up_to c.args.end c.args.map.now in
+    let map = up_to c.args.l.now.sectors c.args.map.now in
     let w = c.args.shadow.now in
     let key = c.args.key.now in
     let e = c.load_at-done.ensures.refused in

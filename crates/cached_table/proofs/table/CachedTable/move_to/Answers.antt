@@ -38,7 +38,7 @@ returns-clause-moved g c =
 pub returns-clause-refused : goal.returns-clause-refused
 returns-clause-refused g c =
     let r = c.move_at-done.result in
-    let map = up_to c.args.end c.args.map.now in
+    let map = up_to c.args.l.now.sectors c.args.map.now in
     let w = c.args.shadow.now in
     let key = c.args.key.now in
     let name = c.args.name.now in
