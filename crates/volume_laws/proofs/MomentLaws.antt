@@ -96,7 +96,7 @@ pub all_lie : (l : Layout) (windows : List WeakRun) (h : List Change) (f : ℕ) 
 all_lie l windows h f i lists pages one = lies_own l (in_runs windows) i h f (told_in pages) (lists.tells pages one)
 
 module _ (l : Layout) (i : Image) (layout : Layout) where
-  said_tells : (windows : List WeakRun) (h : List Change) (f : ℕ) (lists : TellsChoices l windows h f i) → IsSaid l i layout → (pages : List (List ℕ)) → Contains lists.choices pages → Tells layout (in_runs windows) i h f (told_in pages)
+  pub said_tells : (windows : List WeakRun) (h : List Change) (f : ℕ) (lists : TellsChoices l windows h f i) → IsSaid l i layout → (pages : List (List ℕ)) → Contains lists.choices pages → Tells layout (in_runs windows) i h f (told_in pages)
   said_tells windows h f lists (inl is) pages one = subst (λ (k : Layout). Tells k (in_runs windows) i h f (told_in pages)) (sym is) (lists.tells pages one)
   said_tells windows h f lists (inr is) pages one = tells_in l layout (in_runs windows) i h f (told_in pages) (lists.tells pages one) (lists.shows.within layout is.0 is.1 pages one)
 
