@@ -7,7 +7,6 @@ use Rattle.std.proofs.lemmas.List.{take_all, length-take-le}
 use Rattle.std.proofs.lemmas.List.Folds.{list_any-append}
 use Rattle.volume_layout.specs.declared.layout.Layout.{Layout}
 use Rattle.volume_layout.specs.Kinds.{longest_of}
-use Rattle.volume_layout.specs.Layout.{turned}
 use Rattle.volume_layout.proofs.RegionLaws.{regions_apart}
 use Rattle.sector_disk.specs.declared.sector.Sector.{Sector}
 use Rattle.sector_disk.specs.declared.sector.WeakRun.{WeakRun}
@@ -32,7 +31,7 @@ use Rattle.fsd_sound.proofs.BesideLaws.{beside_saves, lies_own, said_shows, said
 use Rattle.fsd_sound.proofs.SaidLaws.{planned_beside, said_again}
 use Rattle.fsd_sound.proofs.WindowLaws.{last_snoc}
 use Rattle.mount_recover.specs.Recover.{ShowsVolume}
-use Rattle.mount_recover.specs.Replay.{IsBehindSettle, IsBefore}
+use Rattle.mount_recover.specs.Replay.{IsBehindSettle}
 use Rattle.volume_contract.specs.Mount.{IsSoundAt}
 
 -- ---- in more windows
