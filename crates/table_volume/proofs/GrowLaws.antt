@@ -11,8 +11,12 @@ use Rattle.fsd_bytes.specs.declared.refusal.Refusal.{Refusal}
 use Rattle.fsd_bytes.specs.declared.refusal.Refusal.TheVariants as Why
 use Rattle.sector_disk.specs.declared.sector.Sector.{Sector}
 use Rattle.sector_disk.specs.Image.{AreShort, IsWorn, Windows, extended, open_damage, sector_at, stand}
-use Rattle.sector_disk.specs.Machine.{Holds as HoldsImage, Moment}
+use Rattle.sector_disk.specs.Machine.{Extends, Grows, Holds as HoldsImage, Moment}
+use Rattle.sector_disk.specs.Calls.{GrowsDisk}
+use Rattle.sector_disk.specs.declared.machine.Machine.{Ghosts}
 use Rattle.sector_disk.proofs.Extended.{extended_at, length-extended}
+use Rattle.sector_disk.proofs.Holding.{over_two}
+use Rattle.sector_disk.proofs.Moments.{leaves_more}
 use Rattle.sector_disk.proofs.Wear.{stand_other, worn_refl}
 use Rattle.fsd_log.specs.Scan.{Walked}
 use Rattle.fsd_files.specs.Answers.{grow_fault}
@@ -92,6 +96,51 @@ grow_touches n bytes old left (inr roots) =
       size = omega (arith, touches.size, length-extended n old.image);
       others = λ s out. subst (λ (x : Sector). SectorWorn (open_damage old.windows s) x (sector_at left.image s)) (extended_at n old.image s) (touches.others s out);
     }
+
+-- the image has its sectors first, and no root is written before
+pub grow_first : (n : ℕ) (bytes : List ℕ) (old left : Moment) → Grows n old left → GrowsRoots n bytes old left
+grow_first n bytes old left (inl wears) = inl wears
+grow_first n bytes old left (inr extends) = inr (record {
+  first = 0;
+  second = 0;
+  in_order = omega arith;
+  once = omega arith;
+  once_more = omega arith;
+  holds = record { worn = extends.image; windows = extends.windows; said = extends.said };
+})
+
+-- roots that are written behind that
+module _ (n : ℕ) (old mid left : Moment) (extends : Extends n old mid) where
+  over_longer : (bytes : List ℕ) (first second : ℕ) → HoldsImage mid (stand (stand mid.image 0 bytes first) 4 bytes second) left → HoldsImage (longer n old) (stand (stand (longer n old).image 0 bytes first) 4 bytes second) left
+  over_longer bytes first second = over_two (longer n old) mid left (longer n old).image 0 4 bytes first second (record { worn = extends.image; windows = extends.windows; said = extends.said })
+
+  pub grow_then : (bytes : List ℕ) → RootsIn bytes mid left → RootsIn bytes (longer n old) left
+  grow_then bytes roots = record {
+    first = roots.first;
+    second = roots.second;
+    in_order = roots.in_order;
+    once = roots.once;
+    once_more = roots.once_more;
+    holds = over_longer bytes roots.first roots.second roots.holds;
+  }
+
+  pub grow_done : (bytes : List ℕ) → HoldsImage mid (stand (stand mid.image 0 bytes 1) 4 bytes 1) left → HoldsImage old (stand (stand (longer n old).image 0 bytes 1) 4 bytes 1) left
+  grow_done bytes holds = let there = over_longer bytes 1 1 holds in record { worn = there.worn; windows = there.windows; said = there.said }
+
+-- a stop leaves more of a call that may give the image more sectors
+pub grows_more : {D : Type 0} {M : Ghosts D} {a b : D} {fault : Option ℕ} {P R : Moment → Moment → Type 0} → GrowsDisk M fault P a b → (M.honest b → (left : Moment) → P (M.now a) left → R (M.now a) left) → GrowsDisk M fault R a b
+grows_more {M = M} {a = a} {b = b} {P = P} {R = R} g more = record {
+  sectors = g.sectors;
+  uses = g.uses;
+  faults = g.faults;
+  trust = g.trust;
+  ledger = g.ledger;
+  quiet = g.quiet;
+  windows = g.windows;
+  exit = λ h. more h (M.now b) (g.exit h);
+  since = g.since;
+  any_moment = λ h. leaves_more M.moment M.left_since a b (P (M.now a)) (R (M.now a)) (more h) (g.any_moment h);
+}
 
 -- ---- a volume that stands
 
