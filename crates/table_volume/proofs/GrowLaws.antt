@@ -33,7 +33,7 @@ use Rattle.fsd_sound.proofs.OpenLaws.{drafts_worn}
 use Rattle.fsd_sound.proofs.SizedLaws.{records_sized}
 use Rattle.fsd_sound.proofs.WindowLaws.{open_is_weak}
 use Rattle.twin_home.specs.Heal.{RootsIn}
-use Rattle.volume_contract.specs.Growth.{LeavesLonger, grown_known}
+use Rattle.volume_contract.specs.Growth.{LeavesGrown, LeavesLonger, grown_known}
 use Rattle.volume_contract.specs.Order.{Comes, Roots, Test, grow_steps, is_idle, is_root}
 use Rattle.volume_contract.specs.State.{Known, StandWritten, Stands, State, forced_of}
 use Rattle.volume_laws.specs.Grown.{value_grown}
@@ -143,6 +143,15 @@ grows_more {M = M} {a = a} {b = b} {P = P} {R = R} g more = record {
 }
 
 -- ---- a volume that stands
+
+-- nothing is done
+pub grow_still : (v : VolumeValue) (now : Moment) → LeavesGrown state IsMemoryOf v is_root now now
+grow_still v now k stands = record {
+  sound = mounted_sound k.mounted k.windows k.changes (forced_of k) now.image stands.disk;
+  windows = refl;
+  said = refl;
+  touches = record { size = omega arith; others = λ s out. inl refl };
+}
 
 module _ (v : VolumeValue) (k : Known) (old : Moment) (n : ℕ) (larger : v.layout.sectors < n) (most : n ≤ most_of v.layout) (short : AreShort old.windows) (stands : Stands state IsMemoryOf v k old) where
   abbrev own : Layout

@@ -1,5 +1,5 @@
 use Rattle.std.proofs.Common.{inr, ℕ, subst}
-use Rattle.std.proofs.lemmas.Result.{OnOk-weaker}
+use Rattle.std.proofs.lemmas.Result.{on_ok_weaker}
 use Rattle.volume_layout.specs.Root.{root_bytes}
 use Rattle.sector_disk.specs.Calls.{GrowsDisk, device_in, failed_at}
 use Rattle.sector_disk.specs.Image.{stand}
@@ -33,8 +33,7 @@ returns-clause-done g c =
     let M = g.M.Machine in
     let old = M.now c.args.m.now in let mid = M.now c.extend_image.new.m in let new = M.now c.write_roots.new.m in
     let bytes = root_bytes c.args.l.now in
-    OnOk-weaker c.write_roots.result (M.honest c.write_roots.new.m → Holds mid (stand (stand mid.image 0 bytes 1) 4 bytes 1) new)
-    (M.honest c.write_roots.new.m → Holds old (stand (stand (longer c.args.l.now.sectors old).image 0 bytes 1) 4 bytes 1) new)
+    on_ok_weaker c.write_roots.result
     (λ done h. subst (λ (n : ℕ). Holds old (stand (stand (longer n old).image 0 bytes 1) 4 bytes 1) new) c.sectors.ensures.value
     (grow_done c.sectors.result old mid new (c.in_ok-extend_image.ensures.done (c.write_roots.ensures.writes.trust.honest h)) bytes (done h)))
     c.write_roots.ensures.done
