@@ -1,5 +1,5 @@
 -- A volume is whole behind a force.
-use Rattle.std.proofs.Common.{◌≡◌, ◌⊎◌, inl, inr, ℕ, Bool, true, false, cond, not, ◌&&◌, ◌||◌, List, [], ◌∷◌, length, option_map, Option, Some, None, refl, sym, ap, subst, ◌∙◌}
+use Rattle.std.proofs.Common.{◌≡◌, ◌⊎◌, inl, inr, ℕ, ◌<◌, Bool, true, false, cond, not, ◌&&◌, ◌||◌, List, [], ◌∷◌, length, option_map, Option, Some, None, refl, sym, ap, subst, ◌∙◌}
 use Rattle.std.specs.Option.{option_map_or}
 use Rattle.std.proofs.lemmas.Bool.{and_parts, both_ways, false_from_ne_true, not-true, or_cases, or_from, or_parts, and_right}
 use Rattle.volume_layout.specs.Layout.{data_start, most_of}
@@ -130,7 +130,7 @@ module _ (v : VolumeValue) (whole : IsWholeVolume v) where
       planned = whole.planned;
       map = subst (IsOfData v.layout) (sym map_is)
           (of_test v.layout v.map (λ s. contains v.map.sectors s || contains (unheld v.shadow.held v.shadow.removed).sectors s) whole.map (λ s there. (freed_within v whole s there).1));
-      removed = subst (IsOfData v.layout) (sym removed ∙ (λ i. record { from = v.map.from; to = v.map.to; sectors = sym (nothing v.map.from v.map.to) i })) none_of_data;
+      removed = subst (IsOfData v.layout) ((λ i. record { from = v.map.from; to = v.map.to; sectors = nothing v.map.from v.map.to i }) ∙ sym removed) none_of_data;
       kept = subst (IsOfData v.layout) (sym kept) (of_test v.layout v.shadow.kept was_kept whole.kept kept_below);
       unfinished = subst (IsOfData v.layout) (sym unfinished) whole.unfinished;
       apart = apart_then;

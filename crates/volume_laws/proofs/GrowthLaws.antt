@@ -1,6 +1,6 @@
 -- A volume with more sectors is whole, is memory of the grown one, and tells the new sectors as free beside those that were.
 use Rattle.std.proofs.Common.{◌≡◌, inl, inr, ℕ, zero, suc, ◌+◌, ◌-◌, ◌*◌, ◌^◌, ◌<◌, ◌≤◌, ◌==◌, ◌&&◌, ◌||◌, not, min, Bool, true, false, cond, List, [], ◌∷◌, ◌++◌, refl, sym, ap, subst, ◌∙◌, arith}
-use Rattle.std.specs.Prelude.{IsFalse, IsTrue, nat_le, nat_lt}
+use Rattle.std.specs.Prelude.{IsTrue, nat_le, nat_lt}
 use Rattle.std.specs.List.{filter, flat_map, list_all, range_with_len}
 use Rattle.std.proofs.Math.Bool.{and-false, or-false}
 use Rattle.std.proofs.lemmas.Bool.{and_from, and_parts, cases_lt, eqb-true, false_from_ne_true, le-leb, le-ltb, leb-true, lt-leb, lt-ltb, ltb-true, or_cases, or_from, or_left}
@@ -9,7 +9,7 @@ use Rattle.std.proofs.lemmas.List.{append-nil}
 use Rattle.std.proofs.lemmas.List.Elements.{filter-append}
 use Rattle.volume_layout.specs.declared.layout.Layout.{Layout}
 use Rattle.volume_layout.specs.Layout.{data_start, is_data, map_bits, map_sectors, map_start, most_of, with_sectors}
-use Rattle.volume_layout.proofs.GrownLaws.{most_least, sized_map, sized_planned}
+use Rattle.volume_layout.proofs.GrownLaws.{sized_map, sized_planned}
 use Rattle.volume_layout.proofs.RootLaws.{planned_bounds}
 use Rattle.run_table.specs.declared.run.Run.{Run}
 use Rattle.run_table.specs.RunTable.{run_of, sectors_of}
@@ -22,7 +22,7 @@ use Rattle.shadow_frees.specs.Readers.{is_held, unheld}
 use Rattle.shadow_frees.specs.Waits.{run_between, waits_in}
 use Rattle.fsd_log.specs.Scan.{Placed}
 use Rattle.fsd_files.specs.Answers.{grown}
-use Rattle.fsd_files.specs.Volume.{Volume, in_version, is_free, is_in, plans_of, waits}
+use Rattle.fsd_files.specs.Volume.{in_version, is_free, is_in, plans_of, waits}
 use Rattle.fsd_files.specs.Waiting.{IsSpaced}
 use Rattle.fsd_files.proofs.CountLaws.{occurs_differ, range_once}
 use Rattle.fsd_files.proofs.WaitLaws.{open_in_area}
@@ -33,7 +33,6 @@ use Rattle.log_thirds.specs.LogValue.{FitsLayout}
 use Rattle.table_survey.specs.Claims.{IsOfData, data_area}
 use Rattle.table_survey.proofs.DataLaws.{data_at, data_outside, data_own, of_data_outside, of_data_own, of_data_within}
 use Rattle.volume_contract.specs.Growth.{grown_state, with_more}
-use Rattle.volume_contract.specs.State.{State}
 use Rattle.volume_laws.specs.Grown.{value_grown}
 use Rattle.volume_laws.specs.State.{IsMemoryOf, freed_sectors, state}
 use Rattle.volume_laws.specs.Volume.{IsWholeVolume, VolumeValue}
@@ -194,8 +193,8 @@ module _ (v : VolumeValue) (n : ℕ) (larger : v.layout.sectors < n) (most : n �
     );
     outside = λ s there. none_behind v.map whole.map s (between s there).0;
     differ =
-      ap all_differ (append-nil (range_with_len v.layout.sectors (n - v.layout.sectors)))
-      ∙ occurs_differ (range_with_len v.layout.sectors (n - v.layout.sectors)) (λ s. (range_once s v.layout.sectors (n - v.layout.sectors)).0);
+        ap all_differ (append-nil (range_with_len v.layout.sectors (n - v.layout.sectors)))
+        ∙ occurs_differ (range_with_len v.layout.sectors (n - v.layout.sectors)) (λ s. (range_once s v.layout.sectors (n - v.layout.sectors)).0);
   }
 
   waits_none : (s : ℕ) → v.layout.sectors ≤ s → waits_in v.shadow s ≡ false

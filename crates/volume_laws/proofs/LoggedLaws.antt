@@ -1,8 +1,8 @@
 -- Behind a force of a volume what is in memory was so before or stands in the log, and what is told as free was free or waited.
-use Rattle.std.proofs.Common.{◌≡◌, ◌⊎◌, inl, inr, ℕ, Bool, true, false, not, ◌&&◌, ◌||◌, List, [], ◌∷◌, length, option_map, Option, Some, None, refl, sym, ap, subst, ◌∙◌, arith}
+use Rattle.std.proofs.Common.{◌≡◌, ◌⊎◌, inl, inr, ℕ, Bool, true, false, ◌&&◌, ◌||◌, List, [], ◌∷◌, length, option_map, Option, Some, None, refl, sym, ap, subst, ◌∙◌, arith}
 use Rattle.std.specs.Prelude.{IsSome, IsTrue, slice_index_or}
 use Rattle.std.specs.List.{flat_map, list_any}
-use Rattle.std.proofs.lemmas.Bool.{and_parts, or_cases, or_left, or_right}
+use Rattle.std.proofs.lemmas.Bool.{or_cases, or_left, or_right}
 use Rattle.run_table.specs.declared.run.Run.{Run}
 use Rattle.run_table.specs.RunTable.{sectors_of}
 use Rattle.run_table.specs.Space.{contains, runs_of, where_free}
@@ -16,8 +16,6 @@ use Rattle.fsd_files.specs.Volume.{is_in}
 use Rattle.fsd_files.proofs.CountLaws.{contains_occurs, occurs_contains, runs_same, used, used-cons}
 use Rattle.fsd_files.proofs.KeptLaws.{has_on}
 use Rattle.volume_layout.specs.declared.layout.Layout.{Layout}
-use Rattle.volume_layout.specs.Layout.{data_start}
-use Rattle.sector_set.specs.Area.{Area}
 use Rattle.fsd_log.specs.Slots.{AreOfSlot}
 use Rattle.log_thirds.specs.LogValue.{LogValue}
 use Rattle.log_thirds.specs.Append.{stamp_now}

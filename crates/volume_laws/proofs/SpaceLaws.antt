@@ -32,7 +32,7 @@ pub none_outside : (l : Layout) (m : Area) (s : ℕ) → IsOfData l m → (data_
 none_outside l m s of_data out = of_data_outside l m of_data s out
 
 -- what is so inside of it, and outside
-pub by_area : {P : Type 0} (l : Layout) (s : ℕ) → (data_start l ≤ s → s < l.sectors → P) → ((data_start l ≤ s → s < l.sectors → ⊥) → P) → P
+by_area : {P : Type 0} (l : Layout) (s : ℕ) → (data_start l ≤ s → s < l.sectors → P) → ((data_start l ≤ s → s < l.sectors → ⊥) → P) → P
 by_area l s inside outside = elim (cases_lt s (data_start l)) [
   | inl below ↦ outside (λ low high. absurd (omega (arith, below, low)))
   | inr low ↦ elim (cases_lt s l.sectors) [
@@ -89,7 +89,7 @@ module _ (v : VolumeValue) (whole : IsWholeVolume v) (s : ℕ) where
     | inl went ↦ of_data_within v.layout v.shadow.removed whole.removed s went
     | inr rest ↦ elim (or_cases (contains v.shadow.kept.sectors s) (contains v.shadow.unfinished.sectors s) rest) [
       | inl kept ↦ of_data_within v.layout v.shadow.kept whole.kept s kept
-      | inr open ↦ of_data_within v.layout v.shadow.unfinished whole.unfinished s open
+      | inr drafted ↦ of_data_within v.layout v.shadow.unfinished whole.unfinished s drafted
     ]
   ]
 
