@@ -44,7 +44,7 @@ use Rattle.volume_laws.proofs.GrowthLaws.{memory_grown, whole_grown}
 use Rattle.volume_laws.proofs.ListLaws.{lists_of}
 use Rattle.volume_laws.proofs.SpaceLaws.{same_free, same_freed, same_unfinished, same_waiting}
 use Rattle.table_volume.proofs.UpgradeLaws.{roots_touch}
-use Rattle.table_volume.specs.Growing.{GrowsRoots, grow_tests, longer}
+use Rattle.table_volume.specs.Growing.{GrowsRoots, HasGrownRoots, grow_tests, longer}
 
 -- ---- the tests
 
@@ -111,7 +111,7 @@ grow_first n bytes old left (inr extends) = inr (record {
 
 -- roots that are written behind that
 module _ (n : ℕ) (old mid left : Moment) (extends : Extends n old mid) where
-  over_longer : (bytes : List ℕ) (first second : ℕ) → HoldsImage mid (stand (stand mid.image 0 bytes first) 4 bytes second) left → HoldsImage (longer n old) (stand (stand (longer n old).image 0 bytes first) 4 bytes second) left
+  pub over_longer : (bytes : List ℕ) (first second : ℕ) → HoldsImage mid (stand (stand mid.image 0 bytes first) 4 bytes second) left → HoldsImage (longer n old) (stand (stand (longer n old).image 0 bytes first) 4 bytes second) left
   over_longer bytes first second = over_two (longer n old) mid left (longer n old).image 0 4 bytes first second (record { worn = extends.image; windows = extends.windows; said = extends.said })
 
   pub grow_then : (bytes : List ℕ) → RootsIn bytes mid left → RootsIn bytes (longer n old) left
@@ -123,9 +123,6 @@ module _ (n : ℕ) (old mid left : Moment) (extends : Extends n old mid) where
     once_more = roots.once_more;
     holds = over_longer bytes roots.first roots.second roots.holds;
   }
-
-  pub grow_done : (bytes : List ℕ) → HoldsImage mid (stand (stand mid.image 0 bytes 1) 4 bytes 1) left → HoldsImage old (stand (stand (longer n old).image 0 bytes 1) 4 bytes 1) left
-  grow_done bytes holds = let there = over_longer bytes 1 1 holds in record { worn = there.worn; windows = there.windows; said = there.said }
 
 -- a stop leaves more of a call that may give the image more sectors
 pub grows_more : {D : Type 0} {M : Ghosts D} {a b : D} {fault : Option ℕ} {P R : Moment → Moment → Type 0} → GrowsDisk M fault P a b → (M.honest b → (left : Moment) → P (M.now a) left → R (M.now a) left) → GrowsDisk M fault R a b
@@ -266,6 +263,5 @@ module _ (v : VolumeValue) (k : Known) (old : Moment) (n : ℕ) (larger : v.layo
           written = written_end;
         }
 
-    pub stands_grown : (new : Moment) → HoldsImage old (stand (stand (longer n old).image 0 (root_bytes (with_sectors n v.layout)) 1) 4 (root_bytes (with_sectors n v.layout)) 1) new
-        → Stands state IsMemoryOf (value_grown n v) (grown_known n k) new
+    pub stands_grown : (new : Moment) → HasGrownRoots n (root_bytes (with_sectors n v.layout)) old new → Stands state IsMemoryOf (value_grown n v) (grown_known n k) new
     stands_grown new holds = stands_worn (value_grown n v) (grown_known n k) (record old { image = end }) new short (record { image = holds.worn; windows = holds.windows }) stands_end

@@ -2,12 +2,11 @@ use Rattle.std.proofs.Common.{inr, ℕ, subst}
 use Rattle.std.proofs.lemmas.Result.{on_ok_weaker}
 use Rattle.volume_layout.specs.Root.{root_bytes}
 use Rattle.sector_disk.specs.Calls.{GrowsDisk, device_in, failed_at}
-use Rattle.sector_disk.specs.Image.{stand}
-use Rattle.sector_disk.specs.Machine.{Grows, Holds}
+use Rattle.sector_disk.specs.Machine.{Grows}
 use Rattle.sector_disk.proofs.CallLaws.{grows_then, grows_told, told_up, writes_as_grows}
 use Rattle.twin_home.specs.Heal.{RootsIn}
-use Rattle.table_volume.specs.Growing.{GrowsRoots, longer}
-use Rattle.table_volume.proofs.GrowLaws.{grow_done, grow_first, grow_then, grows_more}
+use Rattle.table_volume.specs.Growing.{GrowsRoots, HasGrownRoots}
+use Rattle.table_volume.proofs.GrowLaws.{grow_first, grow_then, grows_more, over_longer}
 use Rattle.table_volume.proofs.growing.write_grown.Goals as goal
 
 pub returns-in_err-extend_image-clause-grows : goal.returns-in_err-extend_image-clause-grows
@@ -34,6 +33,6 @@ returns-clause-done g c =
     let old = M.now c.args.m.now in let mid = M.now c.extend_image.new.m in let new = M.now c.write_roots.new.m in
     let bytes = root_bytes c.args.l.now in
     on_ok_weaker c.write_roots.result
-    (λ done h. subst (λ (n : ℕ). Holds old (stand (stand (longer n old).image 0 bytes 1) 4 bytes 1) new) c.sectors.ensures.value
-    (grow_done c.sectors.result old mid new (c.in_ok-extend_image.ensures.done (c.write_roots.ensures.writes.trust.honest h)) bytes (done h)))
+    (λ done h. subst (λ (n : ℕ). HasGrownRoots n bytes old new) c.sectors.ensures.value
+    (over_longer c.sectors.result old mid new (c.in_ok-extend_image.ensures.done (c.write_roots.ensures.writes.trust.honest h)) bytes 1 1 (done h)))
     c.write_roots.ensures.done
