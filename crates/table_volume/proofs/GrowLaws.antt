@@ -11,8 +11,12 @@ use Rattle.fsd_bytes.specs.declared.refusal.Refusal.{Refusal}
 use Rattle.fsd_bytes.specs.declared.refusal.Refusal.TheVariants as Why
 use Rattle.sector_disk.specs.declared.sector.Sector.{Sector}
 use Rattle.sector_disk.specs.Image.{AreShort, IsWorn, Windows, extended, open_damage, sector_at, stand}
-use Rattle.sector_disk.specs.Machine.{Holds as HoldsImage, Moment}
+use Rattle.sector_disk.specs.Machine.{Extends, Grows, Holds as HoldsImage, Moment}
+use Rattle.sector_disk.specs.Calls.{GrowsDisk}
+use Rattle.sector_disk.specs.declared.machine.Machine.{Ghosts}
 use Rattle.sector_disk.proofs.Extended.{extended_at, length-extended}
+use Rattle.sector_disk.proofs.Holding.{over_two}
+use Rattle.sector_disk.proofs.Moments.{leaves_more}
 use Rattle.sector_disk.proofs.Wear.{stand_other, worn_refl}
 use Rattle.fsd_log.specs.Scan.{Walked}
 use Rattle.fsd_files.specs.Answers.{grow_fault}
@@ -29,7 +33,7 @@ use Rattle.fsd_sound.proofs.OpenLaws.{drafts_worn}
 use Rattle.fsd_sound.proofs.SizedLaws.{records_sized}
 use Rattle.fsd_sound.proofs.WindowLaws.{open_is_weak}
 use Rattle.twin_home.specs.Heal.{RootsIn}
-use Rattle.volume_contract.specs.Growth.{LeavesLonger, grown_known}
+use Rattle.volume_contract.specs.Growth.{LeavesGrown, LeavesLonger, grown_known}
 use Rattle.volume_contract.specs.Order.{Comes, Roots, Test, grow_steps, is_idle, is_root}
 use Rattle.volume_contract.specs.State.{Known, StandWritten, Stands, State, forced_of}
 use Rattle.volume_laws.specs.Grown.{value_grown}
@@ -40,7 +44,7 @@ use Rattle.volume_laws.proofs.GrowthLaws.{memory_grown, whole_grown}
 use Rattle.volume_laws.proofs.ListLaws.{lists_of}
 use Rattle.volume_laws.proofs.SpaceLaws.{same_free, same_freed, same_unfinished, same_waiting}
 use Rattle.table_volume.proofs.UpgradeLaws.{roots_touch}
-use Rattle.table_volume.specs.Growing.{GrowsRoots, grow_tests, longer}
+use Rattle.table_volume.specs.Growing.{GrowsRoots, HasGrownRoots, grow_tests, longer}
 
 -- ---- the tests
 
@@ -93,7 +97,58 @@ grow_touches n bytes old left (inr roots) =
       others = λ s out. subst (λ (x : Sector). SectorWorn (open_damage old.windows s) x (sector_at left.image s)) (extended_at n old.image s) (touches.others s out);
     }
 
+-- the image has its sectors first, and no root is written before
+pub grow_first : (n : ℕ) (bytes : List ℕ) (old left : Moment) → Grows n old left → GrowsRoots n bytes old left
+grow_first n bytes old left (inl wears) = inl wears
+grow_first n bytes old left (inr extends) = inr (record {
+  first = 0;
+  second = 0;
+  in_order = omega arith;
+  once = omega arith;
+  once_more = omega arith;
+  holds = record { worn = extends.image; windows = extends.windows; said = extends.said };
+})
+
+-- roots that are written behind that
+module _ (n : ℕ) (old mid left : Moment) (extends : Extends n old mid) where
+  pub over_longer : (bytes : List ℕ) (first second : ℕ) → HoldsImage mid (stand (stand mid.image 0 bytes first) 4 bytes second) left → HoldsImage (longer n old) (stand (stand (longer n old).image 0 bytes first) 4 bytes second) left
+  over_longer bytes first second = over_two (longer n old) mid left (longer n old).image 0 4 bytes first second (record { worn = extends.image; windows = extends.windows; said = extends.said })
+
+  pub grow_then : (bytes : List ℕ) → RootsIn bytes mid left → RootsIn bytes (longer n old) left
+  grow_then bytes roots = record {
+    first = roots.first;
+    second = roots.second;
+    in_order = roots.in_order;
+    once = roots.once;
+    once_more = roots.once_more;
+    holds = over_longer bytes roots.first roots.second roots.holds;
+  }
+
+-- a stop leaves more of a call that may give the image more sectors
+pub grows_more : {D : Type 0} {M : Ghosts D} {a b : D} {fault : Option ℕ} {P R : Moment → Moment → Type 0} → GrowsDisk M fault P a b → (M.honest b → (left : Moment) → P (M.now a) left → R (M.now a) left) → GrowsDisk M fault R a b
+grows_more {M = M} {a = a} {b = b} {P = P} {R = R} g more = record {
+  sectors = g.sectors;
+  uses = g.uses;
+  faults = g.faults;
+  trust = g.trust;
+  ledger = g.ledger;
+  quiet = g.quiet;
+  windows = g.windows;
+  exit = λ h. more h (M.now b) (g.exit h);
+  since = g.since;
+  any_moment = λ h. leaves_more M.moment M.left_since a b (P (M.now a)) (R (M.now a)) (more h) (g.any_moment h);
+}
+
 -- ---- a volume that stands
+
+-- nothing is done
+pub grow_still : (v : VolumeValue) (now : Moment) → LeavesGrown state IsMemoryOf v is_root now now
+grow_still v now k stands = record {
+  sound = mounted_sound k.mounted k.windows k.changes (forced_of k) now.image stands.disk;
+  windows = refl;
+  said = refl;
+  touches = record { size = omega arith; others = λ s out. inl refl };
+}
 
 module _ (v : VolumeValue) (k : Known) (old : Moment) (n : ℕ) (larger : v.layout.sectors < n) (most : n ≤ most_of v.layout) (short : AreShort old.windows) (stands : Stands state IsMemoryOf v k old) where
   abbrev own : Layout
@@ -208,6 +263,5 @@ module _ (v : VolumeValue) (k : Known) (old : Moment) (n : ℕ) (larger : v.layo
           written = written_end;
         }
 
-    pub stands_grown : (new : Moment) → HoldsImage old (stand (stand (longer n old).image 0 (root_bytes (with_sectors n v.layout)) 1) 4 (root_bytes (with_sectors n v.layout)) 1) new
-        → Stands state IsMemoryOf (value_grown n v) (grown_known n k) new
+    pub stands_grown : (new : Moment) → HasGrownRoots n (root_bytes (with_sectors n v.layout)) old new → Stands state IsMemoryOf (value_grown n v) (grown_known n k) new
     stands_grown new holds = stands_worn (value_grown n v) (grown_known n k) (record old { image = end }) new short (record { image = holds.worn; windows = holds.windows }) stands_end

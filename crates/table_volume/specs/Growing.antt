@@ -1,7 +1,7 @@
 -- Growth of a volume, in its parts.
 use Rattle.std.specs.Prelude.{◌⊎◌, ℕ, List, [], ◌∷◌}
-use Rattle.sector_disk.specs.Image.{extended}
-use Rattle.sector_disk.specs.Machine.{Moment, Wears}
+use Rattle.sector_disk.specs.Image.{extended, stand}
+use Rattle.sector_disk.specs.Machine.{Holds, Moment, Wears}
 use Rattle.fsd_files.specs.Answers.{grow_fault}
 use Rattle.twin_home.specs.Heal.{RootsIn}
 use Rattle.volume_contract.specs.Order.{CallStep, Test, down}
@@ -19,3 +19,7 @@ longer n old = record old { image = extended n old.image }
 -- or at both; nothing else was written.
 abbrev pub GrowsRoots : ℕ → List ℕ → Moment → Moment → Type 0
 GrowsRoots n bytes old left = Wears old left ⊎ RootsIn bytes (longer n old) left
+
+-- it has them, and both roots stand
+abbrev pub HasGrownRoots : ℕ → List ℕ → Moment → Moment → Type 0
+HasGrownRoots n bytes old new = Holds (longer n old) (stand (stand (longer n old).image 0 bytes 1) 4 bytes 1) new

@@ -3,14 +3,12 @@ ghost use Rattle.std.specs.Prelude.{◌≡◌, ◌≤◌, ◌<◌, length, IfErr
 ghost use Rattle.volume_layout.specs.Layout.{IsSized, most_of};
 ghost use Rattle.volume_layout.specs.Root.{root_bytes};
 ghost use Rattle.sector_disk.specs.Calls.{GrowsDisk, device_in, failed_at};
-ghost use Rattle.sector_disk.specs.Image.{stand};
-ghost use Rattle.sector_disk.specs.Machine.{Holds};
 ghost use Rattle.fsd_files.specs.Answers.{grow_fault};
 ghost use Rattle.volume_contract.specs.Order.{Follows, is_root};
 ghost use Rattle.volume_contract.specs.State.{Counted};
 ghost use Rattle.volume_laws.specs.Grown.{value_grown};
 ghost use Rattle.volume_laws.specs.State.{state};
-ghost use Rattle.table_volume.specs.Growing.{GrowsRoots, grow_tests, longer};
+ghost use Rattle.table_volume.specs.Growing.{GrowsRoots, HasGrownRoots, grow_tests};
 
 use crate::Volume;
 use crate::freeing::release_between;
@@ -40,7 +38,7 @@ pub(crate) fn write_grown<M: Machine>(m: &mut M, l: &Layout) -> Result<(), Faile
     ensures place { IfErr result (λ failed. IsTrue (is_root failed.place)) }
     ensures room { OnOk result (l.now.sectors ≤ (M.report m.new).sectors) }
     ensures counted { M.tells m.new → Counted result 2 (M.ledger m.old) (M.ledger m.new) }
-    ensures done { OnOk result (M.honest m.new → Holds (M.now m.old) (stand (stand (longer l.now.sectors (M.now m.old)).image 0 (root_bytes l.now) 1) 4 (root_bytes l.now) 1) (M.now m.new)) }
+    ensures done { OnOk result (M.honest m.new → HasGrownRoots l.now.sectors (root_bytes l.now) (M.now m.old) (M.now m.new)) }
 {
     extend_image(m, l.sectors())?;
     write_roots(m, l)
