@@ -94,13 +94,7 @@ fn share(gone: &[Leaving], runs: &Runs) -> bool
 
 // Why these versions may not go: the leaf of the first whose sectors aren't taken is unsound.
 // Where they are an earlier one's no leaf shows it alone.
-fn untaken(
-    map: &Map,
-    l: &Layout,
-    shadow: &Shadow,
-    gone: &[Leaving],
-    home_a: u32,
-) -> Option<Refusal>
+fn untaken(map: &Map, l: &Layout, shadow: &Shadow, gone: &[Leaving], home_a: u32) -> Option<Refusal>
     ensures none { IsNone result → AreInTurn (up_to l.now.sectors map.now) shadow.now [] gone.now }
     ensures some { IsSome result → AreInTurn (up_to l.now.sectors map.now) shadow.now [] gone.now → ⊥ }
     ensures told { IfSome result (TellsUntaken home_a (up_to l.now.sectors map.now) shadow.now gone.now) }
@@ -179,7 +173,16 @@ fn enter_at<T: Pages>(
         Ok(plan) => plan,
         Err(fault) => return Err(plan_refusal(fault, home_a)),
     };
-    match enter_planned(t, home_a, map, l, shadow, &plan, plan.gone.as_slice(), draft) {
+    match enter_planned(
+        t,
+        home_a,
+        map,
+        l,
+        shadow,
+        &plan,
+        plan.gone.as_slice(),
+        draft,
+    ) {
         Ok(()) => Ok(plan),
         Err(refusal) => Err(refusal),
     }
