@@ -61,14 +61,11 @@ module _ (l : Layout) (m : Area) (f : ℕ → Bool) (of_data : IsOfData l m) (be
   pub of_test : IsOfData l (area m.from m.to f)
   of_test = subst (IsOfData l) (sym test_area) (data_own l f)
 
-  test_sectors_in : IsPlanned l → where_free f m.from m.to ≡ where_free f (data_start l) l.sectors
-  test_sectors_in planned = ap (λ (a : Area). a.sectors) test_area ∙ data_sectors l planned f
+  -- as a list it ends with the volume
+  pub test_sectors : IsPlanned l → where_free f m.from m.to ≡ where_free f (data_start l) l.sectors
+  test_sectors planned = ap (λ (a : Area). a.sectors) test_area ∙ data_sectors l planned f
 
--- as a list it ends with the volume
-pub test_sectors : (l : Layout) → IsPlanned l → (m : Area) (f : ℕ → Bool) → IsOfData l m → ((s : ℕ) → f s ≡ true → s < l.sectors) → where_free f m.from m.to ≡ where_free f (data_start l) l.sectors
-test_sectors l planned m f of_data below = test_sectors_in l m f of_data below planned
-
--- so is one with sectors of the volume more, and one with fewer
+-- a set with sectors of the volume more is of the data area, and so is one with fewer
 pub of_more : (l : Layout) (m : Area) (runs : List Run) → IsOfData l m → ((s : ℕ) → contains (sectors_of runs) s ≡ true → s < l.sectors) → IsOfData l (together m runs)
 of_more l m runs of_data below = of_test l m (λ s. contains m.sectors s || contains (sectors_of runs) s) of_data (λ s there. elim (or_cases (contains m.sectors s) (contains (sectors_of runs) s) there) [
   | inl was ↦ (of_data_within l m of_data s was).1
@@ -188,13 +185,13 @@ module _ (v : VolumeValue) (m : Volume) (whole : IsWholeVolume v) (layout : m.la
       let f : ℕ → Bool = λ s. contains v.map.sectors s || contains (unheld v.shadow.held v.shadow.removed).sectors s in
       ap (λ (l : Layout). runs_of (where_free (is_free (forced m)) (data_start l) l.sectors)) layout
       ∙ ap runs_of (where_same (is_free (forced m)) f (data_start v.layout) v.layout.sectors freed_is)
-      ∙ ap runs_of (sym (test_sectors v.layout whole.planned v.map f whole.map (λ s there. (freed_within v whole s there).1)))
+      ∙ ap runs_of (sym (test_sectors v.layout v.map f whole.map (λ s there. (freed_within v whole s there).1) whole.planned))
 
   pub same_waiting : where_free (waits_of m) (data_start m.layout) m.layout.sectors ≡ waiting_sectors v.shadow
   same_waiting =
       ap (λ (l : Layout). where_free (waits_of m) (data_start l) l.sectors) layout
       ∙ where_same (waits_of m) (waits_in v.shadow) (data_start v.layout) v.layout.sectors (λ s low high. waits_is s)
-      ∙ sym (test_sectors v.layout whole.planned v.shadow.removed (waits_in v.shadow) whole.removed (λ s there. (waits_within v whole s there).1))
+      ∙ sym (test_sectors v.layout v.shadow.removed (waits_in v.shadow) whole.removed (λ s there. (waits_within v whole s there).1) whole.planned)
 
   pub same_waits : not (length m.removed == 0) ≡ not (length v.shadow.removed.sectors == 0)
   same_waits = ap not (same_empty m.removed v.shadow.removed.sectors (λ s. sym (removed s)))
