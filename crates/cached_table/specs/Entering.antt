@@ -1,5 +1,5 @@
 -- The versions that go where one is entered, and why none is.
-use Rattle.std.specs.Prelude.{◌≡◌, ◌⊎◌, ⊤, ℕ, ◌<◌, ◌≤◌, Bool, List, [], ◌∷◌, ◌++◌, All, Contains, Option, Some, IsFalse, length, count_by}
+use Rattle.std.specs.Prelude.{◌≡◌, ◌⊎◌, ⊤, ℕ, ◌<◌, ◌≤◌, min, Bool, List, [], ◌∷◌, ◌++◌, All, Contains, Option, Some, IsFalse, length, count_by}
 use Rattle.std.specs.List.{list_any}
 use Rattle.fsd_bytes.specs.Keys.{max_u32}
 use Rattle.fsd_bytes.specs.declared.key.Key.{Key}
@@ -39,6 +39,10 @@ use Rattle.cached_table.specs.Editing.{EditsTable, StaysInCache}
 use Rattle.cached_table.specs.Looking.{BarsPages, Had, HavePages, LeadsTo, LooksOnly, ShowsPlace, images_by, refusal_in}
 
 -- ---- the versions that go
+
+-- the set, of an interval that ends at this place at the latest
+abbrev pub up_to : (end : ℕ) → Area → Area
+up_to end m = record m { to = min m.to end }
 
 -- the sectors are of the data area, each named once, and neither free nor waiting;
 -- and each reader holds these very runs, or none of their sectors

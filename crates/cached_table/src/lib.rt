@@ -11,6 +11,7 @@ mod opening;
 mod surveying;
 mod table;
 
+pub use entering::are_taken;
 pub use looking::told;
 pub use opening::{Opened, open_table};
 pub use table::CachedTable;

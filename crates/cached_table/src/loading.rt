@@ -12,6 +12,7 @@ ghost use Rattle.run_table.specs.RunTable.{FitsRun};
 ghost use Rattle.table_pages.specs.Kept.{IsReady};
 ghost use Rattle.version_table.specs.Loading.{IsThere};
 ghost use Rattle.cached_table.specs.Editing.{DirtiesAtMost, EditsOnly};
+ghost use Rattle.cached_table.specs.Entering.{up_to};
 ghost use Rattle.cached_table.specs.Loading.{LoadsAt, LoadsIn, LoadsNone, LoadsThere, RefusesLoad, entry_drafted};
 
 use crate::CachedTable;
@@ -25,12 +26,14 @@ use sector_disk::Machine;
 use shadow_frees::Shadow;
 use table_pages::Table;
 use version_table::plan_load;
+use volume_layout::Layout;
 
 // Plans a load, and enters the version with the bytes and the runs of a draft, where none of its key is there.
 fn load_at<T: Pages>(
     t: &mut T,
     home_a: u32,
     map: &Map,
+    l: &Layout,
     shadow: &Shadow,
     key: &Key,
     keep: u32,
@@ -50,14 +53,14 @@ fn load_at<T: Pages>(
     ensures loaded { result ≡ Ok true → LoadsAt T.Pages key.now keep draft.now t.old t.new }
     ensures walks { result ≡ Ok false → OnlyWalks T.Pages None t.old t.new }
     ensures there { result ≡ Ok false → IsThere T.Pages key.now t.old t.new }
-    ensures refused { IfErr result (RefusesLoad T.Pages key.now map.now shadow.now home_a t.old t.new) }
+    ensures refused { IfErr result (RefusesLoad T.Pages key.now (up_to l.now.sectors map.now) shadow.now home_a t.old t.new) }
 {
     let plan = match plan_load(t, key, keep) {
         Ok(Some(plan)) => plan,
         Ok(None) => return Ok(false),
         Err(fault) => return Err(plan_refusal(fault, home_a)),
     };
-    match enter_planned(t, home_a, map, shadow, &plan, &[], draft) {
+    match enter_planned(t, home_a, map, l, shadow, &plan, &[], draft) {
         Ok(()) => Ok(true),
         Err(refusal) => Err(refusal),
     }
@@ -73,6 +76,7 @@ impl CachedTable {
         source: &S,
         home_a: u32,
         map: &Map,
+        l: &Layout,
         shadow: &Shadow,
         key: &Key,
         keep: u32,
@@ -91,10 +95,10 @@ impl CachedTable {
         ensures changes { DirtiesAtMost 36 self.old.cache self.new.cache }
         ensures loaded { result ≡ Ok true → LoadsIn M.Machine S.PageSource source.now key.now keep draft.now m.old m.new self.old.cache self.new.cache self.old.free_pages self.new.free_pages }
         ensures there { result ≡ Ok false → LoadsThere M.Machine S.PageSource source.now key.now m.old m.new self.old.cache self.new.cache self.old.free_pages self.new.free_pages }
-        ensures refused { IfErr result (LoadsNone M.Machine S.PageSource source.now key.now map.now shadow.now m.old m.new self.old.cache self.new.cache self.old.free_pages self.new.free_pages home_a) }
+        ensures refused { IfErr result (LoadsNone M.Machine S.PageSource source.now key.now (up_to l.now.sectors map.now) shadow.now m.old m.new self.old.cache self.new.cache self.old.free_pages self.new.free_pages home_a) }
     {
         let mut table = Table::new(m, &mut self.cache, source, home_a, &mut self.free_pages);
-        let done = load_at(&mut table, home_a, map, shadow, key, keep, draft);
+        let done = load_at(&mut table, home_a, map, l, shadow, key, keep, draft);
         table.rest();
         done
     }

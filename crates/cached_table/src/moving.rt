@@ -6,7 +6,7 @@ ghost use Rattle.name_page.specs.Looks.{ChangesPages, OnlyEdits};
 ghost use Rattle.name_page.specs.Pages.{changes, outer_in};
 ghost use Rattle.table_pages.specs.Kept.{IsReady};
 ghost use Rattle.cached_table.specs.Editing.{DirtiesAtMost, EditsOnly};
-ghost use Rattle.cached_table.specs.Entering.{RefusesAt};
+ghost use Rattle.cached_table.specs.Entering.{RefusesAt, up_to};
 ghost use Rattle.cached_table.specs.Moving.{LacksNumber, MovesAt, MovesIn, MovesNone};
 
 use crate::CachedTable;
@@ -19,6 +19,7 @@ use sector_disk::Machine;
 use shadow_frees::Shadow;
 use table_pages::Table;
 use version_table::{Plan, plan_move};
+use volume_layout::Layout;
 
 // Plans a move, and enters the version under its new key, with the serial, the bytes and the runs that it has. Its
 // sectors stay taken: only what else goes is tested.
@@ -26,6 +27,7 @@ fn move_at<T: Pages>(
     t: &mut T,
     home_a: u32,
     map: &Map,
+    l: &Layout,
     shadow: &Shadow,
     key: &Key,
     name: &FileName,
@@ -35,8 +37,8 @@ fn move_at<T: Pages>(
     ensures calls { OnlyEdits T.Pages (outer_in result) t.old t.new }
     ensures pages { ChangesPages (T.step t.old) (T.step t.new) }
     ensures changes { changes (T.step t.old) ≤ changes (T.step t.new) + 36 }
-    ensures moved { IfOk result (MovesAt T.Pages map.now shadow.now key.now name.now t.old t.new) }
-    ensures refused { IfErr result (RefusesAt T.Pages map.now shadow.now name.now (LacksNumber key.now name.now) home_a t.old t.new) }
+    ensures moved { IfOk result (MovesAt T.Pages (up_to l.now.sectors map.now) shadow.now key.now name.now t.old t.new) }
+    ensures refused { IfErr result (RefusesAt T.Pages (up_to l.now.sectors map.now) shadow.now name.now (LacksNumber key.now name.now) home_a t.old t.new) }
 {
     // For the proof alone: its own call tells what a name keeps.
     let _name = name.as_bytes();
@@ -45,7 +47,7 @@ fn move_at<T: Pages>(
         Err(fault) => return Err(plan_refusal(fault, home_a)),
     };
     let gone = plan.gone.as_slice();
-    match enter_planned(t, home_a, map, shadow, &plan, &gone[1..], &gone[0].entry) {
+    match enter_planned(t, home_a, map, l, shadow, &plan, &gone[1..], &gone[0].entry) {
         Ok(()) => Ok(plan),
         Err(refusal) => Err(refusal),
     }
@@ -62,6 +64,7 @@ impl CachedTable {
         source: &S,
         home_a: u32,
         map: &Map,
+        l: &Layout,
         shadow: &Shadow,
         key: &Key,
         name: &FileName,
@@ -71,11 +74,11 @@ impl CachedTable {
         ensures edits { EditsOnly M.Machine S.PageSource source.now (outer_in result) m.old m.new self.old.cache self.new.cache self.old.free_pages self.new.free_pages }
         ensures waiting { AreWaiting (length self.old.free_pages) self.old.cache → AreWaiting (length self.old.free_pages) self.new.cache }
         ensures changes { DirtiesAtMost 36 self.old.cache self.new.cache }
-        ensures moved { IfOk result (MovesIn M.Machine S.PageSource source.now map.now shadow.now key.now name.now m.old m.new self.old.cache self.new.cache self.old.free_pages self.new.free_pages) }
-        ensures refused { IfErr result (MovesNone M.Machine S.PageSource source.now map.now shadow.now key.now name.now m.old m.new self.old.cache self.new.cache self.old.free_pages self.new.free_pages home_a) }
+        ensures moved { IfOk result (MovesIn M.Machine S.PageSource source.now (up_to l.now.sectors map.now) shadow.now key.now name.now m.old m.new self.old.cache self.new.cache self.old.free_pages self.new.free_pages) }
+        ensures refused { IfErr result (MovesNone M.Machine S.PageSource source.now (up_to l.now.sectors map.now) shadow.now key.now name.now m.old m.new self.old.cache self.new.cache self.old.free_pages self.new.free_pages home_a) }
     {
         let mut table = Table::new(m, &mut self.cache, source, home_a, &mut self.free_pages);
-        let done = move_at(&mut table, home_a, map, shadow, key, name);
+        let done = move_at(&mut table, home_a, map, l, shadow, key, name);
         table.rest();
         done
     }

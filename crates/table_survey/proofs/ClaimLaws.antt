@@ -3,12 +3,13 @@ use Rattle.std.proofs.Common.{◌≡◌, ◌⊎◌, inl, inr, ℕ, zero, suc, �
 use Rattle.std.proofs.Math.Bool.{and-true}
 use Rattle.std.specs.Prelude.{nat_le, nat_lt, ◌==◌}
 use Rattle.std.specs.List.{flat_map, list_any}
-use Rattle.std.proofs.lemmas.Bool.{and_parts, and_from, or_cases, or_left, or_right, leb-true, ltb-true, le-leb, lt-ltb, cases_Bool, false_from_ne_true, both_ways, not-true, not_from_false, or_parts, not-false, or_from}
+use Rattle.std.proofs.lemmas.Bool.{and_parts, and_from, or_cases, or_left, or_right, leb-true, ltb-true, cases_Bool, false_from_ne_true, both_ways, not-true, not_from_false, or_parts, not-false, or_from}
 use Rattle.volume_layout.specs.declared.layout.Layout.{Layout}
-use Rattle.volume_layout.specs.Layout.{data_start, is_data}
+use Rattle.volume_layout.specs.Layout.{data_start, is_data, most_of, IsPlanned}
+use Rattle.volume_layout.proofs.GrownLaws.{most_least}
 use Rattle.run_table.specs.declared.run.Run.{Run}
 use Rattle.run_table.specs.RunTable.{sectors_of, total, are_runs, max_runs}
-use Rattle.run_table.specs.Space.{contains, all_differ, where_free}
+use Rattle.run_table.specs.Space.{contains, all_differ}
 use Rattle.run_table.proofs.SectorLaws.{all_from}
 use Rattle.fsd_bytes.specs.declared.key.Key.{Key}
 use Rattle.fsd_bytes.specs.Keys.{key_lt, is_key}
@@ -27,7 +28,8 @@ use Rattle.sector_set.proofs.FreeLaws.{where_same, contains_where}
 use Rattle.sector_set.proofs.AreaLaws.{free_within, free_passes}
 use Rattle.sector_set.proofs.CountLaws.{count_without}
 use Rattle.sector_set.proofs.MeetLaws.{any_none, none_any}
-use Rattle.table_survey.specs.Claims.{IsClaimed, whole_area}
+use Rattle.table_survey.specs.Claims.{IsClaimed, IsLeftOf, IsOfData, data_area, whole_area}
+use Rattle.table_survey.proofs.DataLaws.{area_own, data_at, data_there}
 
 -- ---- how often a sector stands in plans
 
@@ -44,10 +46,6 @@ used_more s (x ∷ done) e = omega (arith, used-cons s x.runs (plans_of (done ++
 
 -- ---- areas
 
-area_own : (from to : ℕ) (f : ℕ → Bool) → IsOwn (area from to f)
-area_own from to f = ap (λ (xs : List ℕ). record { from = from; to = to; sectors = xs })
-    (where_same f (contains (where_free f from to)) from to (λ s low high. sym (contains_where f from to s low high)))
-
 within : (m : Area) → IsOwn m → (s : ℕ) → contains m.sectors s ≡ true → (m.from ≤ s) × (s < m.to)
 within m own s there = free_within m.from m.to (contains m.sectors) s (ap (λ (a : Area). contains a.sectors s) (sym own) ∙ there)
 
@@ -57,10 +55,53 @@ fewer_left m runs own are =
     ap (λ (a : Area). length a.sectors) own ∙ count_without (contains m.sectors) runs m.from m.to are.differ (λ s c. within m own s (are.inside s c)) are.inside
 
 pub whole_own : (l : Layout) → IsOwn (whole_area l)
-whole_own l = area_own (data_start l) l.sectors (λ s. true)
+whole_own l = area_own (data_start l) (most_of l) (λ s. nat_lt s l.sectors && true)
 
 pub without_own : (m : Area) (runs : List Run) → IsOwn (without_sectors m runs)
 without_own m runs = area_own m.from m.to (λ s. contains m.sectors s && not (contains (sectors_of runs) s))
+
+-- all are left, and all but those of runs
+pub left_all : (m : Area) → IsOwn m → IsLeftOf m m
+left_all m own = own ∙ ap (λ (xs : List ℕ). record { from = m.from; to = m.to; sectors = xs })
+    (where_same (contains m.sectors) (λ s. contains m.sectors s && contains m.sectors s) m.from m.to (λ s low high. both (contains m.sectors s)))
+  where
+    both : (a : Bool) → a ≡ (a && a)
+    both true = refl
+    both false = refl
+
+pub left_less : (start now : Area) (runs : List Run) → IsLeftOf start now → IsLeftOf start (without_sectors now runs)
+left_less start now runs left =
+    ap (λ (f : ℕ). area f now.to kept) from
+    ∙ ap (λ (t : ℕ). area start.from t kept) to
+    ∙ ap (λ (xs : List ℕ). record { from = start.from; to = start.to; sectors = xs }) (where_same kept (λ s. contains start.sectors s && contains (without_sectors now runs).sectors s) start.from start.to each)
+  where
+    kept : ℕ → Bool
+    kept s = contains now.sectors s && not (contains (sectors_of runs) s)
+
+    from : now.from ≡ start.from
+    from = ap (λ (a : Area). a.from) left
+
+    to : now.to ≡ start.to
+    to = ap (λ (a : Area). a.to) left
+
+    also : (a b c : Bool) → a ≡ (b && a) → (a && c) ≡ (b && (a && c))
+    also true true c is = refl
+    also true false c is = absurd (both_ways true is refl)
+    also false true c is = refl
+    also false false c is = refl
+
+    each : (s : ℕ) → start.from ≤ s → s < start.to → kept s ≡ (contains start.sectors s && contains (without_sectors now runs).sectors s)
+    each s low high =
+        also (contains now.sectors s) (contains start.sectors s) (not (contains (sectors_of runs) s))
+        (ap (λ (a : Area). contains a.sectors s) left ∙ contains_where (λ t. contains start.sectors t && contains now.sectors t) start.from start.to s low high)
+        ∙ ap (λ (b : Bool). contains start.sectors s && b) (sym (contains_where kept now.from now.to s (omega (arith, low, from)) (omega (arith, high, to))))
+
+-- of the whole data area
+pub left_data : (l : Layout) (m : Area) → IsLeftOf (whole_area l) m → IsOfData l m
+left_data l m left = left ∙ ap (λ (xs : List ℕ). record { from = data_start l; to = most_of l; sectors = xs })
+    (where_same (λ s. contains (whole_area l).sectors s && contains m.sectors s) (λ s. nat_lt s l.sectors && contains m.sectors s) (data_start l) (most_of l)
+    (λ s low high. ap (λ (b : Bool). b && contains m.sectors s)
+    (contains_where (λ t. nat_lt t l.sectors && true) (data_start l) (most_of l) s low high ∙ and-true (nat_lt s l.sectors))))
 
 -- an entry has a sector
 some_sector : (runs : List Run) → are_runs runs ≡ true → 1 ≤ total runs
@@ -182,9 +223,9 @@ less_first key (x ∷ done) rest s all = by (key_lt x.key key) all.0 (less_first
     by true e more = omega (arith, more, used-cons s x.runs (plans_of done), occurs-append s (sectors_of x.runs) (flat_map (λ y. sectors_of y.runs) tail))
 
 -- an entry whose sectors are not all left clashes with those before it
-pub refused_clashes : (l : Layout) (done rest : List Entry) (now : Area) (e : Entry) → IsClaimed (whole_area l) done now → AllByRecursion (λ x. key_lt x.key e.key ≡ true) done
+pub refused_clashes : (l : Layout) → IsPlanned l → (done rest : List Entry) (now : Area) (e : Entry) → IsClaimed (whole_area l) done now → AllByRecursion (λ x. key_lt x.key e.key ≡ true) done
     → (AreIn now e.runs → ⊥) → entry_clashes l (done ++ rest) e ≡ true
-refused_clashes l done rest now e c less unfit = by (entry_clashes l (done ++ rest) e) refl
+refused_clashes l planned done rest now e c less unfit = by (entry_clashes l (done ++ rest) e) refl
   where
     sectors : List ℕ
     sectors = sectors_of e.runs
@@ -203,11 +244,11 @@ refused_clashes l done rest now e c less unfit = by (entry_clashes l (done ++ re
           let data_there = and_parts (nat_le (data_start l) s) (nat_lt s l.sectors) (not-false (is_data l s) both.0) in
           let low = leb-true (data_start l) s data_there.0 in
           let high = ltb-true s l.sectors data_there.1 in
-          let free : contains (whole_area l).sectors s ≡ true = contains_where (λ t. true) (data_start l) l.sectors s low high in
+          let free : contains (whole_area l).sectors s ≡ true = data_at l planned (λ t. true) s low high in
           let out : is_in (plans_of done) s ≡ false = false_from_ne_true (is_in (plans_of done) s) (λ is.
           both_ways (contains before s) both.1 (occurs_contains s before (omega (arith, less_first e.key done rest s less, contains_occurs s (flat_map sectors_of (plans_of done)) is)))) in
           ap (λ (a : Area). contains a.sectors s) c.left
-          ∙ contains_where (λ t. contains (whole_area l).sectors t && not (is_in (plans_of done) t)) (data_start l) l.sectors s low high
+          ∙ contains_where (λ t. contains (whole_area l).sectors t && not (is_in (plans_of done) t)) (data_start l) (most_of l) s low (omega (arith, high, most_least l planned))
           ∙ and_from (contains (whole_area l).sectors s) (not (is_in (plans_of done) s)) free (not_from_false (is_in (plans_of done) s) out);
     }
 
@@ -254,11 +295,6 @@ both_used s e (x ∷ entries) (inr later) = by (key_lt x.key e.key) (both_used s
     by true more = omega (arith, more, used-cons s x.runs (plans_of entries), occurs-append s (sectors_of x.runs) (flat_map (λ y. sectors_of y.runs) tail))
     by false more = omega (arith, more, used-cons s x.runs (plans_of entries))
 
-data_of : (l : Layout) (s : ℕ) → contains (whole_area l).sectors s ≡ true → is_data l s ≡ true
-data_of l s there =
-    let in_it = free_within (data_start l) l.sectors (λ t. true) s there in
-    and_from (nat_le (data_start l) s) (nat_lt s l.sectors) (le-leb (data_start l) s in_it.0) (lt-ltb s l.sectors in_it.1)
-
 -- none of the entries that are claimed clashes
 pub claimed_fit : (l : Layout) (entries : List Entry) (now : Area) (e : Entry) → IsClaimed (whole_area l) entries now → Among e entries → entry_clashes l entries e ≡ true → ⊥
 claimed_fit l entries now e c there clash = both_ways (not (all_differ sectors) || list_any bad sectors) (or_from (not (all_differ sectors)) (list_any bad sectors) (ap not differ) none) clash
@@ -280,7 +316,7 @@ claimed_fit l entries now e c there clash = both_ways (not (all_differ sectors) 
 
     none : list_any bad sectors ≡ false
     none = any_none bad sectors (λ s is.
-        let area_there : is_data l s ≡ true = data_of l s (c.inside s (occurs_contains s all (omega (arith, both_used s e entries there, contains_occurs s sectors is)))) in
+        let area_there : is_data l s ≡ true = data_there l (λ t. true) s (c.inside s (occurs_contains s all (omega (arith, both_used s e entries there, contains_occurs s sectors is)))) in
         or_from (not (is_data l s)) (contains before s) (ap not area_there)
         (false_from_ne_true (contains before s) (λ again. absurd (omega (arith, both_used s e entries there, differ_occurs all c.differ s, contains_occurs s sectors is, contains_occurs s before again)))))
 
@@ -289,9 +325,10 @@ claimed_fit l entries now e c there clash = both_ways (not (all_differ sectors) 
 pub claimed_apart : (l : Layout) (entries : List Entry) (now : Area) → IsClaimed (whole_area l) entries now → Apart l (plans_of entries)
 claimed_apart l entries now c =
     let all : List ℕ = flat_map sectors_of (plans_of entries) in
-    and_from (all_differ all) (list_all (is_data l) all) c.differ (all_from (is_data l) all (λ s there. data_of l s (c.inside s there)))
+    and_from (all_differ all) (list_all (is_data l) all) c.differ (all_from (is_data l) all (λ s there. data_there l (λ t. true) s (c.inside s there)))
 
-pub claimed_left : (l : Layout) (entries : List Entry) (now : Area) → IsClaimed (whole_area l) entries now → now ≡ area (data_start l) l.sectors (λ s. not (is_in (plans_of entries) s))
-claimed_left l entries now c = c.left ∙ ap (λ (xs : List ℕ). record { from = data_start l; to = l.sectors; sectors = xs })
-    (where_same (λ s. contains (whole_area l).sectors s && not (is_in (plans_of entries) s)) (λ s. not (is_in (plans_of entries) s)) (data_start l) l.sectors
-    (λ s low high. ap (λ (b : Bool). b && not (is_in (plans_of entries) s)) (contains_where (λ t. true) (data_start l) l.sectors s low high)))
+pub claimed_left : (l : Layout) (entries : List Entry) (now : Area) → IsClaimed (whole_area l) entries now → now ≡ data_area l (λ s. not (is_in (plans_of entries) s))
+claimed_left l entries now c = c.left ∙ ap (λ (xs : List ℕ). record { from = data_start l; to = most_of l; sectors = xs })
+    (where_same (λ s. contains (whole_area l).sectors s && not (is_in (plans_of entries) s)) (λ s. nat_lt s l.sectors && not (is_in (plans_of entries) s)) (data_start l) (most_of l)
+    (λ s low high. ap (λ (b : Bool). b && not (is_in (plans_of entries) s))
+    (contains_where (λ t. nat_lt t l.sectors && true) (data_start l) (most_of l) s low high ∙ and-true (nat_lt s l.sectors))))

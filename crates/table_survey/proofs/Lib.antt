@@ -1,4 +1,5 @@
 pub mod ClaimLaws
+pub mod DataLaws
 mod FaultLaws
 mod PassLaws
 mod StepLaws

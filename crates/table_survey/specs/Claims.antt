@@ -1,8 +1,8 @@
--- Entries whose sectors are taken out of an area.
+-- Sets of sectors of the data area, and entries whose sectors are taken out of one.
 use Rattle.std.specs.Prelude.{◌≡◌, ℕ, Bool, true, not, ◌&&◌, List, IsTrue, nat_lt}
 use Rattle.std.specs.List.{flat_map}
 use Rattle.volume_layout.specs.declared.layout.Layout.{Layout}
-use Rattle.volume_layout.specs.Layout.{data_start, most_of}
+use Rattle.volume_layout.specs.Layout.{data_start, most_of, IsPlanned}
 use Rattle.run_table.specs.RunTable.{sectors_of}
 use Rattle.run_table.specs.Space.{contains, all_differ}
 use Rattle.fsd_formats.specs.declared.entry.Entry.{Entry}
@@ -34,6 +34,10 @@ pub record IsClaimed (old : Area) (entries : List Entry) (new : Area) : Type 0 w
   pub inside : (s : ℕ) → IsTrue (is_in (plans_of entries) s) → IsTrue (contains old.sectors s)
   pub left : new ≡ area old.from old.to (λ s. contains old.sectors s && not (is_in (plans_of entries) s))
 
+-- the second has sectors of the first alone, in the same interval
+abbrev pub IsLeftOf : Area → Area → Type 0
+IsLeftOf old new = new ≡ area old.from old.to (λ s. contains old.sectors s && contains new.sectors s)
+
 -- the fault names the entry's page, and its sectors are not all in the area, each named once
 abbrev pub IsClaimRefused : Area → FoundEntry → TreeFault → Type 0
 IsClaimRefused old found fault = (fault ≡ Broken found.page) × (AreIn old found.entry.runs → ⊥)
@@ -42,5 +46,5 @@ IsClaimRefused old found fault = (fault ≡ Broken found.page) × (AreIn old fou
 abbrev pub FailsClaims : {D : Type 0} (P : Ghosts D) (old : Area) (new : D) → TreeFault → Type 0
 FailsClaims P old new =
     HasTreeCause (P.step new)
-    (λ page. P.trusted new → (l : Layout) → old ≡ whole_area l → (height : ℕ) → IsTree (P.step new).images height → Breaks l (P.step new).images page)
+    (λ page. P.trusted new → (l : Layout) → IsPlanned l → old ≡ whole_area l → (height : ℕ) → IsTree (P.step new).images height → Breaks l (P.step new).images page)
     (λ page. P.trusted new → BarsTable (P.step new) page)

@@ -4,9 +4,8 @@ ghost use Rattle.fsd_table.specs.Tree.{IsTree, table_of};
 ghost use Rattle.name_page.specs.Looks.{OnlyWalks};
 ghost use Rattle.name_page.specs.declared.pages.TheConstants.{MOST_REACHED};
 ghost use Rattle.name_btree.specs.Fault.{outer_told, IsAmong};
-ghost use Rattle.run_table.specs.Space.{contains};
-ghost use Rattle.sector_set.specs.Area.{AreIn, IsOwn, area, without_sectors};
-ghost use Rattle.table_survey.specs.Claims.{IsClaimed, FailsClaims, IsClaimRefused};
+ghost use Rattle.sector_set.specs.Area.{AreIn, IsOwn, without_sectors};
+ghost use Rattle.table_survey.specs.Claims.{IsClaimed, IsLeftOf, FailsClaims, IsClaimRefused};
 
 use alloc_map::Map;
 use fsd_bytes::Key;
@@ -34,7 +33,7 @@ pub(crate) fn claim_all<T: Pages>(t: &mut T, map: &mut Map) -> Result<(), TreeFa
     ensures calls { OnlyWalks T.Pages (outer_told result) t.old t.new }
     ensures among { 0 < length (T.step t.old).images → IfErr result (IsAmong (length (T.step t.old).images)) }
     ensures claimed { IfOk result (λ done. T.trusted t.new → (height : ℕ) → IsTree (T.step t.old).images height → IsClaimed map.old (table_of (T.step t.old).images height) map.new) }
-    ensures area { IfOk result (λ done. map.new ≡ area map.old.from map.old.to (contains map.new.sectors)) }
+    ensures left { IfOk result (λ done. IsLeftOf map.old map.new) }
     ensures fault { IfErr result (FailsClaims T.Pages map.old t.new) }
 {
     let mut after: Option<Key> = None;

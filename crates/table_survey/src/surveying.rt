@@ -1,5 +1,6 @@
 //! The survey of a whole table.
 ghost use Rattle.std.specs.Prelude.{◌≡◌, ◌≤◌, ◌<◌, IfOk, IfErr, [], length};
+ghost use Rattle.volume_layout.specs.Layout.{IsPlanned};
 ghost use Rattle.name_page.specs.Looks.{OnlyWalks};
 ghost use Rattle.name_page.specs.declared.pages.TheConstants.{MOST_REACHED};
 ghost use Rattle.name_btree.specs.Fault.{outer_told, IsAmong};
@@ -33,6 +34,7 @@ pub fn survey<T: Pages>(
     requires more { MOST_REACHED ≤ (T.step t.old).most_reached }
     requires whole { length reached.old ≡ length (T.step t.old).images }
     requires clear { AreMarksOf [] reached.old }
+    requires planned { IsPlanned l.now }
     requires map { map.old ≡ whole_area l.now }
     ensures calls { OnlyWalks T.Pages (outer_told result) t.old t.new }
     ensures among { 0 < length (T.step t.old).images → IfErr result (IsAmong (length (T.step t.old).images)) }

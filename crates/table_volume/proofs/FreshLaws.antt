@@ -10,6 +10,7 @@ use Rattle.sector_set.proofs.FreeLaws.{contains_where, where_same}
 use Rattle.fsd_files.specs.Files.{Files}
 use Rattle.fsd_files.specs.Volume.{free_runs, is_free, is_in, plans_of, waits}
 use Rattle.log_thirds.specs.LogValue.{LogValue}
+use Rattle.table_survey.proofs.DataLaws.{data_sectors}
 use Rattle.volume_contract.specs.State.{Fits, IsNew}
 use Rattle.table_volume.specs.Mounting.{IsAssembled, assembled, fresh_mounted, opened_of}
 use Rattle.cached_table.specs.Opening.{IsTableOf}
@@ -45,7 +46,7 @@ module _ (l : Layout) (planned : IsPlanned l) (log : LogValue) (v : VolumeValue)
   taken s = is_in (plans_of t.telling.entries) s
 
   own : v.map.sectors ≡ where_free (λ s. not (is_in (plans_of t.telling.entries) s)) (data_start l) l.sectors
-  own = ap (λ (m : Area). m.sectors) t.map
+  own = ap (λ (m : Area). m.sectors) t.map ∙ data_sectors l planned (λ s. not (is_in (plans_of t.telling.entries) s))
 
   frees : free_runs (fresh_mounted l log pages t.telling files).volume ≡ runs_of v.map.sectors
   frees = ap runs_of (where_same (is_free (fresh_mounted l log pages t.telling files).volume) (λ s. not (is_in (plans_of t.telling.entries) s)) (data_start l) l.sectors

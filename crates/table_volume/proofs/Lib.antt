@@ -8,6 +8,7 @@ mod MetLaws
 pub mod EndsLaws
 pub mod EpochLaws
 pub mod FreshLaws
+mod GrowLaws
 pub mod HealsLaws
 pub mod KnownLaws
 mod LookedLaws

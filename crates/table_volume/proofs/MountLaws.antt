@@ -4,8 +4,8 @@ use Rattle.std.specs.Prelude.{IfOk, IfSome, ◌==◌}
 use Rattle.std.proofs.Math.Bool.{or-false}
 use Rattle.std.proofs.lemmas.List.{ext_get_or, get_or-replicate, length-replicate}
 use Rattle.volume_layout.specs.declared.layout.Layout.{Layout}
-use Rattle.volume_layout.specs.Layout.{data_start, IsPlanned}
-use Rattle.run_table.specs.Space.{contains, runs_of, where_free}
+use Rattle.volume_layout.specs.Layout.{data_start, most_of, IsPlanned}
+use Rattle.run_table.specs.Space.{contains, runs_of}
 use Rattle.sector_set.specs.Area.{Area}
 use Rattle.sector_set.proofs.FreeLaws.{where_same}
 use Rattle.shadow_frees.specs.Readers.{is_held, unheld}
@@ -23,6 +23,7 @@ use Rattle.fsd_sound.specs.declared.fault.MountFault.{MountFault}
 use Rattle.fsd_sound.specs.declared.fault.MountFault.TheVariants.{Device, Lost, Memory, NoAnchor, NotVolume, Unsound, WornOut}
 use Rattle.log_thirds.specs.LogValue.{LogValue}
 use Rattle.mount_recover.specs.Recover.{IsNotUnsound, IsRefusedFor, IsSettled, IsSettledIn, LeavesAll}
+use Rattle.table_survey.proofs.DataLaws.{of_data_own}
 use Rattle.volume_contract.specs.Mount.{CountsMount, IsFound, IsRefused, KeepsAll, MountOpens}
 use Rattle.volume_contract.specs.State.{IsNew}
 use Rattle.table_volume.specs.Mounting.{IsAssembled, assembled, no_area, opened_of}
@@ -54,17 +55,14 @@ module _ (l : Layout) (log : LogValue) (v : VolumeValue) (a : IsAssembled l log 
 
   none_unheld : (unheld (replicate 8 None) (no_area l)).sectors ≡ []
   none_unheld =
-      where_same (λ s. contains (no_area l).sectors s && not (is_held (replicate 8 None) s)) (λ s. false) (data_start l) l.sectors (λ s from to. ap (λ (xs : List ℕ). contains xs s && not (is_held (replicate 8 None) s)) (none_of_area l))
-      ∙ nothing (data_start l) l.sectors
+      where_same (λ s. contains (no_area l).sectors s && not (is_held (replicate 8 None) s)) (λ s. false) (data_start l) (most_of l) (λ s from to. ap (λ (xs : List ℕ). contains xs s && not (is_held (replicate 8 None) s)) (none_of_area l))
+      ∙ nothing (data_start l) (most_of l)
 
   freed : freed_sectors (assembled l log (opened_of v)) ≡ v.map.sectors
   freed =
-      let own = a.opened.map in
       where_same (λ s. contains v.map.sectors s || contains (unheld (replicate 8 None) (no_area l)).sectors s) (contains v.map.sectors) v.map.from v.map.to
       (λ s from to. ap (λ (xs : List ℕ). contains v.map.sectors s || contains xs s) none_unheld ∙ or-false (contains v.map.sectors s))
-      ∙ ap (λ (n : ℕ). where_free (contains v.map.sectors) n v.map.to) (ap (λ (m : Area). m.from) own)
-      ∙ ap (λ (n : ℕ). where_free (contains v.map.sectors) (data_start l) n) (ap (λ (m : Area). m.to) own)
-      ∙ sym (ap (λ (m : Area). m.sectors) own)
+      ∙ sym (ap (λ (m : Area). m.sectors) (of_data_own l v.map a.opened.map))
 
   new_state : IsNew (state (assembled l log (opened_of v)))
   new_state = record {
@@ -73,7 +71,7 @@ module _ (l : Layout) (log : LogValue) (v : VolumeValue) (a : IsAssembled l log 
     slots = slots;
     count = refl;
     dirty = a.opened.dirty;
-    waiting = where_same (waits_in (assembled l log (opened_of v)).shadow) (λ s. false) (data_start l) l.sectors (λ s from to. none_wait l s) ∙ nothing (data_start l) l.sectors;
+    waiting = where_same (waits_in (assembled l log (opened_of v)).shadow) (λ s. false) (data_start l) (most_of l) (λ s from to. none_wait l s) ∙ nothing (data_start l) (most_of l);
     waits = ap (λ (xs : List ℕ). not (length xs == 0)) (none_of_area l);
     unfinished = none_of_area l;
     readers = refl;

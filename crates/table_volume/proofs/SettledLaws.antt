@@ -233,7 +233,7 @@ module _ (sectors : ℕ) (l : Layout) (windows : List WeakRun) (h : List Change)
           }
 
       no_break : (s : ℕ) → BreaksAt l pages s → ⊥
-      no_break s breaks = told_unbroken l pages files_settled.telling files_settled.told described_new.apart breaks.0 breaks.2
+      no_break s breaks = told_unbroken l begun.planned pages files_settled.telling files_settled.told described_new.apart breaks.0 breaks.2
 
       excused : (fault : MountFault) → IsNoTable l pages fault → Excuses fault
       excused (Device s) none = tt

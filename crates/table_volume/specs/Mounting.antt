@@ -1,8 +1,8 @@
 -- The volume that a mount makes.
 use Rattle.std.specs.Prelude.{◌≡◌, ℕ, false, List, [], None, Result, Ok, Err, replicate}
 use Rattle.volume_layout.specs.declared.layout.Layout.{Layout}
-use Rattle.sector_set.specs.Area.{Area}
-use Rattle.table_survey.specs.Claims.{data_area}
+use Rattle.volume_layout.specs.Layout.{data_start, most_of}
+use Rattle.sector_set.specs.Area.{Area, area}
 use Rattle.shadow_frees.specs.Waits.{Waits}
 use Rattle.sector_disk.specs.Machine.{Moment}
 use Rattle.fsd_sound.specs.declared.fault.MountFault.{MountFault}
@@ -15,9 +15,9 @@ use Rattle.cached_table.specs.Opening.{IsNoTable, IsOpened, IsTableOf, home_page
 use Rattle.volume_laws.specs.Volume.{VolumeValue}
 use Rattle.cached_table.specs.declared.opening.Opened.{Opened}
 
--- no sector of the data area
+-- no sector of the data area, with room for the most
 abbrev pub no_area : Layout → Area
-no_area l = data_area l (λ s. false)
+no_area l = area (data_start l) (most_of l) (λ s. false)
 
 -- nothing waits, and no reader holds anything
 abbrev pub none_waits : Layout → Waits

@@ -97,6 +97,7 @@ impl Volume {
             &source,
             home_a,
             &self.map,
+            &self.layout,
             &self.shadow,
             name,
             keep,

@@ -3,6 +3,7 @@ ghost use Rattle.std.specs.Prelude.{◌≡◌, ◌<◌};
 ghost use Rattle.volume_laws.specs.Taken.{are_taken, down_fault, met_entry};
 
 use crate::Volume;
+use cached_table::are_taken;
 use fsd_bytes::Refusal;
 use fsd_formats::Entry;
 use run_table::Runs;
@@ -23,7 +24,7 @@ impl Volume {
     fn are_taken(&self, runs: &Runs) -> bool
         ensures { result ≡ are_taken self.now runs.now }
     {
-        self.map.are_taken(runs) && self.shadow.are_idle(runs) && self.shadow.agrees(runs)
+        are_taken(&self.map, &self.layout, &self.shadow, runs)
     }
 
     /// An entry that was met in a leaf, which is the table's only where its sectors are taken.

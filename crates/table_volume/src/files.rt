@@ -1,6 +1,7 @@
 //! A volume as its callers see it.
 use crate::Volume;
 use crate::forcing::force_refusal;
+use crate::growing::write_grown;
 use crate::mounting::open_settled;
 use crate::pieces::{sectors_of, small};
 use crate::reading::read_version;
@@ -8,7 +9,6 @@ use fsd_bytes::{FileName, Key, Refusal};
 use fsd_formats::Entry;
 use fsd_sound::MountFault;
 use mount_recover::recover;
-use run_table::{Run, Runs};
 use sector_disk::{Machine, Seen};
 use std::alloc::Global;
 use twin_home::{heal_twins, write_roots};
@@ -230,32 +230,10 @@ impl<M: Machine> Files<M> for Volume {
     }
 
     fn grow(&mut self, m: &mut M, sectors: u32) -> Result<u32, Refusal> {
-        self.is_up()?;
-        let had = self.layout.sectors();
-        if sectors <= had {
-            return Err(Refusal::NotLarger(sectors));
-        }
-        let most = self.layout.most_sectors();
-        if sectors > most {
-            return Err(Refusal::PastMost(most));
-        }
+        self.may_grow(sectors)?;
         let layout = self.layout.with_sectors(sectors);
-        if let Err(failed) = m.extend(sectors) {
-            self.down = Some(failed.place);
-            return Err(Refusal::Device(failed.place));
-        }
-        match write_roots(m, &layout) {
-            Ok(()) => {
-                self.log.set_layout(layout);
-                self.layout = layout;
-                let mut runs = Runs::new();
-                runs.push(Run {
-                    start: had,
-                    length: sectors - had,
-                });
-                self.map.release(&runs);
-                Ok(self.map.free_count())
-            }
+        match write_grown(m, &layout) {
+            Ok(()) => Ok(self.grown(layout)),
             Err(failed) => {
                 self.down = Some(failed.place);
                 Err(Refusal::Device(failed.place))

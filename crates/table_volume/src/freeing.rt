@@ -11,8 +11,8 @@ use run_table::{Run, Runs};
 use shadow_frees::Shadow;
 use version_table::Leaving;
 
-// The run from a sector to another is free.
-fn release_between(map: &mut Map, start: u32, end: u32)
+/// The run from a sector to another is free.
+pub(crate) fn release_between(map: &mut Map, start: u32, end: u32)
     requires order { start < end }
     requires out { AreOut map.old (run_between (start, end) ∷ []) }
     ensures { map.new ≡ together map.old (run_between (start, end) ∷ []) }

@@ -8,6 +8,7 @@ mod files;
 mod finding;
 mod forcing;
 mod freeing;
+mod growing;
 mod holding;
 mod keeping;
 mod loading;

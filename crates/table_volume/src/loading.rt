@@ -53,6 +53,7 @@ impl Volume {
             &source,
             home_a,
             &self.map,
+            &self.layout,
             &self.shadow,
             key,
             keep,

@@ -61,6 +61,7 @@ impl Volume {
             &source,
             home_a,
             &self.map,
+            &self.layout,
             &self.shadow,
             name,
             keep,

@@ -59,9 +59,16 @@ impl Volume {
         self.table.cache.attest();
         let home_a = self.layout.home_a(0);
         let source = Newest::over(&self.log, &self.layout);
-        let done = self
-            .table
-            .move_to(m, &source, home_a, &self.map, &self.shadow, key, name);
+        let done = self.table.move_to(
+            m,
+            &source,
+            home_a,
+            &self.map,
+            &self.layout,
+            &self.shadow,
+            key,
+            name,
+        );
         let waits = !self.table.cache.dirty_list().is_empty();
         let plan = done?;
         let gone = others(plan.gone.as_slice());

@@ -28,7 +28,9 @@ use Rattle.volume_laws.specs.Completed.{Completes}
 use Rattle.volume_laws.specs.Entered.{StandsEntered}
 use Rattle.volume_laws.specs.Placing.{IsPlace}
 use Rattle.volume_laws.specs.State.{IsMemoryOf, state}
+use Rattle.volume_laws.specs.Taken.{data_map}
 use Rattle.volume_laws.specs.Volume.{IsWholeVolume, VolumeValue}
+use Rattle.table_survey.proofs.DataLaws.{of_data_own}
 use Rattle.volume_laws.proofs.PieceLaws.{abandoned, map_more, stands_abandoned, unfinished_left, waiting_out, whole_abandoned}
 use Rattle.volume_laws.proofs.EnterDone.{ends_entered}
 use Rattle.volume_laws.proofs.MakingLaws.{whole_entered, with_if}
@@ -45,7 +47,7 @@ module _ (v : VolumeValue) (whole : IsWholeVolume v) (runs : List Run) (are : Ar
   map_back = own ∙ (λ i. record { from = v.map.from; to = v.map.to; sectors = where_same (contains v.map.sectors) (λ s. contains (together v.map runs).sectors s && not (contains (sectors_of runs) s)) v.map.from v.map.to same i })
     where
       own : v.map ≡ area v.map.from v.map.to (contains v.map.sectors)
-      own = whole.map ∙ (λ i. area (ap (λ (a : Area). a.from) (sym whole.map) i) (ap (λ (a : Area). a.to) (sym whole.map) i) (contains v.map.sectors))
+      own = of_data_own v.layout v.map whole.map
 
       tests : (a b : Bool) → (b ≡ true → a ≡ false) → a ≡ ((a || b) && not b)
       tests true true out = absurd (cc (out refl))
@@ -66,7 +68,7 @@ module _ (v : VolumeValue) (whole : IsWholeVolume v) (runs : List Run) (are : Ar
   }
 
   -- what is taken is so there
-  out_back : (rs : List Run) → AreOut v.map rs → AreOut v.shadow.unfinished rs → AreOut (together v.map runs) rs
+  out_back : (rs : List Run) → AreOut (data_map v) rs → AreOut v.shadow.unfinished rs → AreOut (data_map (abandoned v runs)) rs
   out_back rs out idle = record {
     within = out.within;
     outside = λ s here. map_more v whole runs are s ∙ or_from (contains v.map.sectors s) (contains (sectors_of runs) s) (out.outside s here)
@@ -81,7 +83,7 @@ module _ (v : VolumeValue) (whole : IsWholeVolume v) (runs : List Run) (are : Ar
     differ = idle.differ;
   }
 
-  pub turn_back : (seen gone : List Leaving) → AreInTurn v.map v.shadow seen gone → AreInTurn (together v.map runs) (abandoned v runs).shadow seen gone
+  pub turn_back : (seen gone : List Leaving) → AreInTurn (data_map v) v.shadow seen gone → AreInTurn (data_map (abandoned v runs)) (abandoned v runs).shadow seen gone
   turn_back seen [] turn = tt
   turn_back seen (g ∷ gone) turn =
       let taken = turn.0.0 in (
@@ -92,7 +94,7 @@ module _ (v : VolumeValue) (whole : IsWholeVolume v) (runs : List Run) (are : Ar
 -- ---- over any machine
 
 module _ (v w : VolumeValue) (is : v ≡ w) (whole : IsWholeVolume v) (c : CacheValue) (flags : List Bool) (edited : IsWholeVolume (record v { cache = c; free_pages = flags })) (runs : List Run) (are : AreIn v.shadow.unfinished runs)
-    (gone : List Leaving) (turn : AreInTurn v.map v.shadow [] gone) (b : Bool) (dry : c.dirty ≡ [] → b ≡ false) (shadow : Waits) (versions : ℕ)
+    (gone : List Leaving) (turn : AreInTurn (data_map v) v.shadow [] gone) (b : Bool) (dry : c.dirty ≡ [] → b ≡ false) (shadow : Waits) (versions : ℕ)
     (removed : shadow.removed ≡ with_if b v.shadow.removed gone) (kept : shadow.kept ≡ v.shadow.kept) (unfinished : shadow.unfinished ≡ without_sectors v.shadow.unfinished runs) (held : shadow.held ≡ v.shadow.held) where
   abbrev ghost : VolumeValue
   ghost = abandoned v runs

@@ -95,7 +95,7 @@ module _ {D : Type 0} (M : MachineGhosts D) (short : (m : D) → M.honest m → 
         made.0 made.1 refl
         (record {
           map = λ s. now.holds.map s ∙ sym (deleted_free (volume_of k) key reached_left e now.disk.spaced s);
-          removed = λ s. ap (λ (a : Area). contains a.sectors s) goes ∙ deleted_waits (volume_of k) key reached_left e now.disk.spaced v.layout v.shadow.removed now.fits.layout whole.removed alone now.holds.removed s;
+          removed = λ s. ap (λ (a : Area). contains a.sectors s) goes ∙ deleted_waits (volume_of k) key reached_left e now.disk.spaced v.layout whole.planned v.shadow.removed now.fits.layout whole.removed alone now.holds.removed s;
           kept = λ s. ap (λ (a : Area). contains a.sectors s) kept ∙ now.holds.kept s ∙ sym (deleted_kept (volume_of k) key reached_left e now.disk.spaced s);
           unfinished = λ s. ap (λ (a : Area). contains a.sectors s) unfinished ∙ now.holds.unfinished s;
           held = now.fits.held ∙ ap held_runs (sym held);

@@ -16,8 +16,9 @@ use Rattle.volume_contract.specs.State.{Known, Leaves, Stands, WrittenDraft, for
 use Rattle.volume_laws.specs.State.{IsMemoryOf, state}
 use Rattle.volume_laws.specs.Volume.{IsWholeVolume, VolumeValue}
 use Rattle.volume_laws.proofs.ClearedLaws.{AreWritten, free_cleared, mounted_again, mounted_cleared, no_drafts, same_volume}
-use Rattle.volume_laws.proofs.PieceLaws.{as_opened, mounted_opened, of_test, stands_opened}
-use Rattle.volume_laws.proofs.SpaceLaws.{none_outside, test_there}
+use Rattle.table_survey.proofs.DataLaws.{of_data_within}
+use Rattle.volume_laws.proofs.PieceLaws.{as_opened, mounted_opened, stands_opened}
+use Rattle.volume_laws.proofs.SpaceLaws.{none_outside, of_test, test_there}
 use Rattle.volume_laws.proofs.WrittenLaws.{leaves_written, stands_written}
 
 -- ---- over any machine
@@ -31,12 +32,12 @@ cleared v = record v {
 module _ (v : VolumeValue) (whole : IsWholeVolume v) where
   map_cleared : (s : ℕ) → contains (cleared v).map.sectors s ≡ (contains v.map.sectors s || contains v.shadow.unfinished.sectors s)
   map_cleared s =
-      test_there v.layout v.map.from v.map.to (λ t. contains v.map.sectors t || contains v.shadow.unfinished.sectors t) s (ap (λ (a : Area). a.from) whole.map) (ap (λ (a : Area). a.to) whole.map)
+      test_there v.layout whole.planned v.map.from v.map.to (λ t. contains v.map.sectors t || contains v.shadow.unfinished.sectors t) s (ap (λ (a : Area). a.from) whole.map) (ap (λ (a : Area). a.to) whole.map)
       (λ out. λ i. none_outside v.layout v.map s whole.map out i || none_outside v.layout v.shadow.unfinished s whole.unfinished out i)
 
   none_cleared : (s : ℕ) → contains (cleared v).shadow.unfinished.sectors s ≡ false
   none_cleared s =
-      test_there v.layout v.shadow.unfinished.from v.shadow.unfinished.to (λ t. false) s (ap (λ (a : Area). a.from) whole.unfinished) (ap (λ (a : Area). a.to) whole.unfinished) (λ out. refl)
+      test_there v.layout whole.planned v.shadow.unfinished.from v.shadow.unfinished.to (λ t. false) s (ap (λ (a : Area). a.from) whole.unfinished) (ap (λ (a : Area). a.to) whole.unfinished) (λ out. refl)
 
   still_idle : (s : ℕ) → contains v.shadow.removed.sectors s ≡ false → contains v.shadow.kept.sectors s ≡ false → waits_in (cleared v).shadow s ≡ false
   still_idle s went kept =
@@ -46,10 +47,13 @@ module _ (v : VolumeValue) (whole : IsWholeVolume v) where
   whole_cleared : IsWholeVolume (cleared v)
   whole_cleared = record {
     planned = whole.planned;
-    map = of_test v.layout v.map (λ s. contains v.map.sectors s || contains v.shadow.unfinished.sectors s) whole.map;
+    map = of_test v.layout v.map (λ s. contains v.map.sectors s || contains v.shadow.unfinished.sectors s) whole.map (λ s there. elim (or_cases (contains v.map.sectors s) (contains v.shadow.unfinished.sectors s) there) [
+      | inl was ↦ (of_data_within v.layout v.map whole.map s was).1
+      | inr mine ↦ (of_data_within v.layout v.shadow.unfinished whole.unfinished s mine).1
+    ]);
     removed = whole.removed;
     kept = whole.kept;
-    unfinished = of_test v.layout v.shadow.unfinished (λ s. false) whole.unfinished;
+    unfinished = of_test v.layout v.shadow.unfinished (λ s. false) whole.unfinished (λ s there. absurd (both_ways false refl there));
     apart = λ s there. elim (or_cases (contains v.map.sectors s) (contains v.shadow.unfinished.sectors s) (sym (map_cleared s) ∙ there)) [
       | inl was ↦
           let none = or_parts (contains v.shadow.removed.sectors s) (contains v.shadow.kept.sectors s || contains v.shadow.unfinished.sectors s) (whole.apart s was) in

@@ -37,6 +37,7 @@ use Rattle.cached_table.specs.Entering.{AreInTurn, AreTaken, LosesUntaken, NoneF
 use Rattle.volume_laws.specs.Entered.{EndsEntered, EndsMade, StandsEntered}
 use Rattle.cached_table.specs.Looking.{BarsPages, images_by}
 use Rattle.volume_laws.specs.State.{IsMemoryOf, state}
+use Rattle.volume_laws.specs.Taken.{data_map}
 use Rattle.volume_laws.specs.Volume.{IsWholeVolume, VolumeValue}
 use Rattle.volume_laws.proofs.CountLaws.{count_of_flags}
 use Rattle.volume_laws.proofs.EntryLaws.{entry_contained, taken_there}
@@ -93,19 +94,19 @@ module _ {D : Type 0} (M : MachineGhosts D) (short : (m : D) → M.honest m → 
   -- ---- the versions that go
 
   -- those of its entries are taken, each alone
-  turn_there : (keys : List Key) (gone : List Leaving) → entries_left gone ≡ entries_at keys (volume_of k).entries → AreInTurn v.map v.shadow [] gone
-  turn_there keys gone left = in_turn v.map v.shadow [] gone taken once
+  turn_there : (keys : List Key) (gone : List Leaving) → entries_left gone ≡ entries_at keys (volume_of k).entries → AreInTurn (data_map v) v.shadow [] gone
+  turn_there keys gone left = in_turn (data_map v) v.shadow [] gone taken once
     where
       ascend : Ascend (volume_of k).entries
       ascend = let tree = is_tree v k (M.now m) whole stands in subst Ascend tree.2 (entries_ascend (tree.0 - 1) k.mounted.pages top tree.1.subtree)
 
-      each : AllByRecursion (λ e. AreTaken v.map v.shadow e.runs) (entries_at keys (volume_of k).entries)
-      each = each_kept (λ (e : Entry). AreTaken v.map v.shadow e.runs) (λ e. list_any (same_key e.key) keys) (volume_of k).entries
-          (all_weaker (λ (e : Entry). entry_of e.key (volume_of k).entries ≡ Some e) (λ (e : Entry). AreTaken v.map v.shadow e.runs) (volume_of k).entries
+      each : AllByRecursion (λ e. AreTaken (data_map v) v.shadow e.runs) (entries_at keys (volume_of k).entries)
+      each = each_kept (λ (e : Entry). AreTaken (data_map v) v.shadow e.runs) (λ e. list_any (same_key e.key) keys) (volume_of k).entries
+          (all_weaker (λ (e : Entry). entry_of e.key (volume_of k).entries ≡ Some e) (λ (e : Entry). AreTaken (data_map v) v.shadow e.runs) (volume_of k).entries
           (λ e there. taken_is_out v whole e.runs (taken_there v v refl whole k (M.now m) stands e (entry_contained e.key (volume_of k).entries e there))) (each_found (volume_of k).entries ascend))
 
-      taken : AllByRecursion (λ g. AreTaken v.map v.shadow g.entry.runs) gone
-      taken = each_mapped (λ (e : Entry). AreTaken v.map v.shadow e.runs) (λ (g : Leaving). g.entry) gone (subst (AllByRecursion (λ (e : Entry). AreTaken v.map v.shadow e.runs)) (sym left) each)
+      taken : AllByRecursion (λ g. AreTaken (data_map v) v.shadow g.entry.runs) gone
+      taken = each_mapped (λ (e : Entry). AreTaken (data_map v) v.shadow e.runs) (λ (g : Leaving). g.entry) gone (subst (AllByRecursion (λ (e : Entry). AreTaken (data_map v) v.shadow e.runs)) (sym left) each)
 
       once : (s : ℕ) → used s (plans_of (entries_left [])) + used s (plans_of (entries_left gone)) ≤ 1
       once s =
@@ -137,8 +138,8 @@ module _ {D : Type 0} (M : MachineGhosts D) (short : (m : D) → M.honest m → 
         let one = h trust in
         unbarred one.0 (subst (λ (f : List Bool). BarsPages k.mounted.pages f one.0) stays.same_flags (subst (λ (p : List (List ℕ)). BarsPages p flags one.0) are_pages one.1))
 
-    untaken : OfTableIn M by_log.ghosts v.log m m' v.cache v.free_pages (LosesUntaken v.map v.shadow) → ⊥
-    untaken h = let lost = of_entries (LosesUntaken v.map v.shadow) h in lost.3 (turn_there lost.0 lost.1 lost.2)
+    untaken : OfTableIn M by_log.ghosts v.log m m' v.cache v.free_pages (LosesUntaken (data_map v) v.shadow) → ⊥
+    untaken h = let lost = of_entries (LosesUntaken (data_map v) v.shadow) h in lost.3 (turn_there lost.0 lost.1 lost.2)
 
 -- a refusal is one of the definitions, or came from outside
 module _ {D : Type 0} (M : MachineGhosts D) (short : (m : D) → M.honest m → AreShort (M.now m).windows) (m m' : D) (v : VolumeValue) (whole : IsWholeVolume v) (cached : IsCache v.cache) (c : CacheValue) (flags : List Bool)
@@ -169,10 +170,10 @@ module _ {D : Type 0} (M : MachineGhosts D) (short : (m : D) → M.honest m → 
   abbrev Ends : Refusal → Type 0
   Ends r = EndsEntered name given bytes draft k (record v { cache = c; free_pages = flags }) (M.now m') (Err r)
 
-  pub refused_ends : (r : Refusal) → EditsOnly M by_log.ghosts v.log (outer_refusal r) m m' v.cache c v.free_pages flags → NoneFor M by_log.ghosts v.log v.map v.shadow name m m' v.cache c v.free_pages flags r → Ends r
+  pub refused_ends : (r : Refusal) → EditsOnly M by_log.ghosts v.log (outer_refusal r) m m' v.cache c v.free_pages flags → NoneFor M by_log.ghosts v.log (data_map v) v.shadow name m m' v.cache c v.free_pages flags r → Ends r
   refused_ends r edits none =
       refused_by M short m m' v whole cached c flags honest k stands name valid stays (enter_fault (volume_of k) name) (StandsEntered name given bytes draft k (record v { cache = c; free_pages = flags }) (M.now m'))
-      (OfTableIn M by_log.ghosts v.log m m' v.cache v.free_pages (LosesUntaken v.map v.shadow))
+      (OfTableIn M by_log.ghosts v.log m m' v.cache v.free_pages (LosesUntaken (data_map v) v.shadow))
       (OfTableIn M by_log.ghosts v.log m m' v.cache v.free_pages (λ table. max_u32 < (next_key name table).version))
       (OfTableIn M by_log.ghosts v.log m m' v.cache v.free_pages (λ table. (next_key name table).version ≤ max_u32))
       (λ told edits lost. untaken M short m m' v whole cached c flags told edits honest k stands name valid stays lost)
@@ -186,11 +187,11 @@ module _ {D : Type 0} (M : MachineGhosts D) (short : (m : D) → M.honest m → 
 module _ {D : Type 0} (M : MachineGhosts D) (short : (m : D) → M.honest m → AreShort (M.now m).windows) (m m' : D) (v w : VolumeValue) (is : v ≡ w) (whole : IsWholeVolume v) (cached : IsCache v.cache) (c : CacheValue) (flags : List Bool)
     (log : LogValue) (of_log : log ≡ v.log) (valid : IsCache c) (name : List ℕ) (given : Option ℕ) (draft : Entry) where
   pub ends_refused : (result : Result Key Refusal) (why : Refusal) → IsErrAnd result (λ told. told ≡ why) → EditsOnly M by_log.ghosts log (outer_refusal why) m m' v.cache c v.free_pages flags
-      → StaysInCache M by_log.ghosts log m m' v.cache c v.free_pages flags → NoneFor M by_log.ghosts log v.map v.shadow name m m' v.cache c v.free_pages flags why
+      → StaysInCache M by_log.ghosts log m m' v.cache c v.free_pages flags → NoneFor M by_log.ghosts log (data_map v) v.shadow name m m' v.cache c v.free_pages flags why
       → M.honest m' → (k : Known) → Stands state IsMemoryOf w k (M.now m) → (bytes : List ℕ) → EndsEntered name given bytes draft k (record v { cache = c; free_pages = flags }) (M.now m') result
   ends_refused result why told edits stays none honest k stands bytes =
       handed (λ (r : Result Key Refusal). EndsEntered name given bytes draft k (record v { cache = c; free_pages = flags }) (M.now m') r) result why told
       (refused_ends M short m m' v whole cached c flags honest k (subst (λ (x : VolumeValue). Stands state IsMemoryOf x k (M.now m)) (sym is) stands) name given bytes draft valid
       (subst (λ (l : LogValue). StaysInCache M by_log.ghosts l m m' v.cache c v.free_pages flags) of_log stays) why
       (subst (λ (l : LogValue). EditsOnly M by_log.ghosts l (outer_refusal why) m m' v.cache c v.free_pages flags) of_log edits)
-      (subst (λ (l : LogValue). NoneFor M by_log.ghosts l v.map v.shadow name m m' v.cache c v.free_pages flags why) of_log none))
+      (subst (λ (l : LogValue). NoneFor M by_log.ghosts l (data_map v) v.shadow name m m' v.cache c v.free_pages flags why) of_log none))

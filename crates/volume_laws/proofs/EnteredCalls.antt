@@ -18,6 +18,7 @@ use Rattle.volume_contract.specs.Order.{Comes, Through}
 use Rattle.cached_table.specs.Entering.{AreIdleInTurn, AreInTurn, NoneFor}
 use Rattle.volume_laws.specs.Entered.{KeepsOnEnter, entering_steps}
 use Rattle.volume_laws.specs.State.{state}
+use Rattle.volume_laws.specs.Taken.{data_map}
 use Rattle.volume_laws.specs.Volume.{IsWholeVolume, VolumeValue}
 use Rattle.volume_laws.proofs.CountLaws.{count_of_flags}
 use Rattle.volume_laws.proofs.GoingLaws.{idle_in_turn}
@@ -50,7 +51,7 @@ module _ (v w : VolumeValue) (is : v ≡ w) where
   pub through_entered : 8 ≤ count_by (λ spare. spare) v.free_pages → Through (entering_steps (state w))
   through_entered many = enters_through (state w) (count_by (λ spare. spare) v.free_pages) free_told many
 
-  pub enter_comes : {D : Type 0} (M : MachineGhosts D) (m m' : D) (log : LogValue) (name : List ℕ) (c : CacheValue) (flags : List Bool) (why : Refusal) → NoneFor M by_log.ghosts log v.map v.shadow name m m' v.cache c v.free_pages flags why
+  pub enter_comes : {D : Type 0} (M : MachineGhosts D) (m m' : D) (log : LogValue) (name : List ℕ) (c : CacheValue) (flags : List Bool) (why : Refusal) → NoneFor M by_log.ghosts log (data_map v) v.shadow name m m' v.cache c v.free_pages flags why
       → Comes (entering_steps (state w)) why
   enter_comes M m m' log name c flags why none = refuses_comes (state w) _ _ _ _ (count_by (λ spare. spare) v.free_pages) free_told why none
 

@@ -5,7 +5,6 @@ use Rattle.std.specs.FinMap.{is_sorted}
 use Rattle.std.proofs.lemmas.Bool.{both_ways, cases_lt, false_from_ne_true, or_right}
 use Rattle.std.proofs.lemmas.List.{ext_get_or}
 use Rattle.volume_layout.specs.declared.layout.Layout.{Layout}
-use Rattle.volume_layout.specs.Layout.{data_start}
 use Rattle.sector_disk.specs.declared.machine.Machine.{Ghosts as MachineGhosts}
 use Rattle.sector_disk.specs.Image.{AreShort, open_damage}
 use Rattle.sector_disk.specs.Machine.{Moment}
@@ -42,6 +41,7 @@ use Rattle.volume_laws.specs.Placing.{IsPlace}
 use Rattle.volume_laws.specs.State.{IsMemoryOf, state}
 use Rattle.volume_laws.specs.Volume.{IsWholeVolume, VolumeValue}
 use Rattle.table_survey.specs.Claims.{IsOfData}
+use Rattle.table_survey.proofs.DataLaws.{of_data_own}
 use Rattle.volume_laws.proofs.ChangeLaws.{stands_changed}
 use Rattle.volume_laws.proofs.EnteredSpace.{made, made_count, made_free, made_kept, made_there, made_waits}
 use Rattle.volume_laws.proofs.MadeLaws.{has_table, pages_made, pages_now, worn}
@@ -66,8 +66,7 @@ taken_map l map v runs of_data is s =
     outside : (map.from ≤ s → s < map.to → ⊥) → contains (without_sectors map runs).sectors s ≡ (is_free v s && not (contains (sectors_of runs) s))
     outside far =
         let none : contains map.sectors s ≡ false =
-        ap (λ (m : Area). contains m.sectors s) of_data
-        ∙ contains_where_outside (contains map.sectors) (data_start l) l.sectors s (λ low high. far (omega (arith, low, ap (λ (m : Area). m.from) of_data)) (omega (arith, high, ap (λ (m : Area). m.to) of_data))) in
+        ap (λ (m : Area). contains m.sectors s) (of_data_own l map of_data) ∙ contains_where_outside (contains map.sectors) map.from map.to s far in
         contains_where_outside left map.from map.to s far ∙ ap (λ (b : Bool). b && not (contains (sectors_of runs) s)) (sym none ∙ is s)
 
 -- ---- the volume that stands
@@ -155,7 +154,7 @@ module _ {D : Type 0} (M : MachineGhosts D) (short : (m : D) → M.honest m → 
           map = λ s. ap (λ (a : Area). contains a.sectors s) taken ∙ taken_map v.layout v.map (volume_of k) e.runs whole.map now.holds.map s
               ∙ sym (made_free (volume_of k) change e out reached_entered is_made.stays is_made.absent s);
           removed = λ s. ap (λ (a : Area). contains a.sectors s) goes
-              ∙ made_waits (volume_of k) change e out reached_entered v.layout v.shadow.removed gone changed now.fits.layout whole.removed is_made.goes now.holds.removed s;
+              ∙ made_waits (volume_of k) change e out reached_entered v.layout whole.planned v.shadow.removed gone changed now.fits.layout whole.removed is_made.goes now.holds.removed s;
           kept = λ s. ap (λ (a : Area). contains a.sectors s) kept ∙ now.holds.kept s ∙ sym (made_kept (volume_of k) change e out reached_entered is_made.stays is_made.absent unheld s);
           unfinished = λ s. ap (λ (a : Area). contains a.sectors s) unfinished ∙ now.holds.unfinished s;
           held = now.fits.held ∙ ap held_runs (sym held);

@@ -8,7 +8,8 @@ use Rattle.std.proofs.Math.Bool.{or_comm, or-false, or_assoc}
 use Rattle.std.proofs.lemmas.Bool.{and_parts, cases_lt, false_from_ne_true, leb-true, ltb-true, or_left}
 use Rattle.std.proofs.lemmas.List.Folds.{list_any-append}
 use Rattle.volume_layout.specs.declared.layout.Layout.{Layout}
-use Rattle.volume_layout.specs.Layout.{data_start, is_data}
+use Rattle.volume_layout.specs.Layout.{data_start, is_data, IsPlanned}
+use Rattle.volume_layout.proofs.GrownLaws.{most_least}
 use Rattle.fsd_bytes.specs.declared.key.Key.{Key}
 use Rattle.fsd_bytes.specs.Keys.{key_cmp, same_key}
 use Rattle.run_table.specs.declared.run.Run.{Run}
@@ -29,6 +30,7 @@ use Rattle.version_table.specs.declared.oldest.Leaving.{Leaving}
 use Rattle.version_table.specs.Met.{entries_left}
 use Rattle.cached_table.specs.Entering.{with_gone}
 use Rattle.table_survey.specs.Claims.{IsOfData}
+use Rattle.table_survey.proofs.DataLaws.{of_data_outside}
 use Rattle.volume_laws.proofs.DeleteLaws.{split_count}
 use Rattle.volume_laws.proofs.GoneLaws.{split_in}
 
@@ -85,27 +87,27 @@ gone_outside a (g ∷ gs) s out none = gone_outside (together a g.entry.runs) gs
 
 -- with those of versions that go, where no other sector waits
 module _ (v w : Volume) (out : List Key) (same : w.layout ≡ v.layout) (removed : w.removed ≡ v.removed ++ gone_sectors out v.entries) (changes : Changes v w) where
-  pub gone_wait : (l : Layout) (old : Area) (gs : List Leaving) → v.layout ≡ l → IsOfData l old → entries_left gs ≡ entries_at out v.entries
+  pub gone_wait : (l : Layout) → IsPlanned l → (old : Area) (gs : List Leaving) → v.layout ≡ l → IsOfData l old → entries_left gs ≡ entries_at out v.entries
       → ((s : ℕ) → contains old.sectors s ≡ contains v.removed s) → (s : ℕ) → contains (with_gone old gs).sectors s ≡ contains w.removed s
-  gone_wait l old gs layout of_data left before s =
-      elim (cases_lt s (data_start l)) [
+  gone_wait l planned old gs layout of_data left before s =
+      elim (cases_lt s old.from) [
         | inl low ↦ outside (λ from to. absurd (omega (arith, low, from)))
-        | inr from ↦ elim (cases_lt s l.sectors) [
+        | inr from ↦ elim (cases_lt s old.to) [
           | inr high ↦ outside (λ low to. absurd (omega (arith, high, to)))
-          | inl to ↦
-              gone_at old gs s (omega (arith, from, ap (λ (m : Area). m.from) of_data)) (omega (arith, to, ap (λ (m : Area). m.to) of_data))
-              ∙ (λ i. before s i || is_in (plans_of (left i)) s) ∙ sym (ap (λ (xs : List ℕ). contains xs s) removed ∙ list_any-append (λ t. t == s) v.removed (gone_sectors out v.entries))
+          | inl to ↦ gone_at old gs s from to ∙ (λ i. before s i || is_in (plans_of (left i)) s) ∙ sym (ap (λ (xs : List ℕ). contains xs s) removed ∙ list_any-append (λ t. t == s) v.removed (gone_sectors out v.entries))
         ]
       ]
     where
-      outside : (data_start l ≤ s → s < l.sectors → ⊥) → contains (with_gone old gs).sectors s ≡ contains w.removed s
-      outside far =
-          let beyond : contains w.removed s ≡ false = false_from_ne_true (contains w.removed s) (λ there.
+      outside : (old.from ≤ s → s < old.to → ⊥) → contains (with_gone old gs).sectors s ≡ contains w.removed s
+      outside past =
+          gone_outside old gs s past (of_data_outside l old of_data s far)
+          ∙ sym (false_from_ne_true (contains w.removed s) (λ there.
           let area = and_parts (nat_le (data_start v.layout) s) (nat_lt s v.layout.sectors) (in_area there) in
-          far (omega (arith, leb-true (data_start v.layout) s area.0, ap data_start layout)) (omega (arith, ltb-true s v.layout.sectors area.1, ap (λ (x : Layout). x.sectors) layout))) in
-          let none : contains old.sectors s ≡ false = ap (λ (m : Area). contains m.sectors s) of_data ∙ contains_where_outside (contains old.sectors) (data_start l) l.sectors s far in
-          gone_outside old gs s (λ low high. far (omega (arith, low, ap (λ (m : Area). m.from) of_data)) (omega (arith, high, ap (λ (m : Area). m.to) of_data))) none ∙ sym beyond
+          far (omega (arith, leb-true (data_start v.layout) s area.0, ap data_start layout)) (omega (arith, ltb-true s v.layout.sectors area.1, ap (λ (x : Layout). x.sectors) layout))))
         where
+          far : data_start l ≤ s → s < l.sectors → ⊥
+          far low high = past (omega (arith, low, ap (λ (m : Area). m.from) of_data)) (omega (arith, high, most_least l planned, ap (λ (m : Area). m.to) of_data))
+
           in_area : IsTrue (contains w.removed s) → IsTrue (is_data v.layout s)
           in_area there = subst (λ (x : Layout). IsTrue (is_data x s)) same (changes.spaced.area s (or_left (contains w.removed s) (is_in w.held s) there))
 
@@ -206,6 +208,6 @@ module _ (v : Volume) (c : Change) (new : Entry) (out : List Key) (r : ℕ) wher
         one_more = weight_put left new (ap not stays) (λ runs. 1) v.entries absent
 
   -- the sectors that wait then
-  pub made_waits : (l : Layout) (old : Area) (gs : List Leaving) → Changes v made → v.layout ≡ l → IsOfData l old → entries_left gs ≡ entries_at out v.entries
+  pub made_waits : (l : Layout) → IsPlanned l → (old : Area) (gs : List Leaving) → Changes v made → v.layout ≡ l → IsOfData l old → entries_left gs ≡ entries_at out v.entries
       → ((s : ℕ) → contains old.sectors s ≡ contains v.removed s) → (s : ℕ) → contains (with_gone old gs).sectors s ≡ contains made.removed s
-  made_waits l old gs changes layout of_data left before s = gone_wait v made out refl refl changes l old gs layout of_data left before s
+  made_waits l planned old gs changes layout of_data left before s = gone_wait v made out refl refl changes l planned old gs layout of_data left before s

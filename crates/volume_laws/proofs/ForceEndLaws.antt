@@ -3,14 +3,16 @@ use Rattle.std.proofs.Common.{◌≡◌, inl, inr, ℕ, ◌-◌, ◌<◌, ◌≤
 use Rattle.std.proofs.Math.Bool.{and-false}
 use Rattle.std.specs.Prelude.{◌==◌, slice_index_or}
 use Rattle.std.specs.List.{list_any}
-use Rattle.std.proofs.lemmas.Bool.{cases_lt, lt-leb, le-ltb, or_left}
+use Rattle.std.proofs.lemmas.Bool.{cases_lt, false_from_ne_true, lt-leb, le-ltb, or_left}
 use Rattle.std.proofs.lemmas.List.{append-nil}
 use Rattle.volume_layout.specs.declared.layout.Layout.{Layout}
 use Rattle.volume_layout.specs.Layout.{data_start, map_start}
+use Rattle.volume_layout.proofs.GrownLaws.{most_least}
 use Rattle.run_table.specs.declared.run.Run.{Run}
 use Rattle.run_table.specs.Space.{contains, where_free}
 use Rattle.sector_set.specs.Area.{Area, area}
-use Rattle.sector_set.proofs.FreeLaws.{contains_where, contains_where_outside}
+use Rattle.sector_set.proofs.AreaLaws.{free_passes}
+use Rattle.sector_set.proofs.FreeLaws.{contains_where}
 use Rattle.shadow_frees.specs.Readers.{is_held, unheld, with_held}
 use Rattle.shadow_frees.specs.Waits.{Waits}
 use Rattle.fsd_bytes.specs.declared.key.Serial.{Serial}
@@ -49,7 +51,7 @@ use Rattle.volume_laws.specs.Taken.{down_fault}
 use Rattle.volume_laws.specs.Volume.{IsWholeVolume, VolumeValue}
 use Rattle.volume_laws.proofs.ForceMomentLaws.{agrees, knows, now, over_waiting, same_data, told_now, visits_now, waiting}
 use Rattle.volume_laws.proofs.KeptLaws.{free_same}
-use Rattle.volume_laws.proofs.SpaceLaws.{freed_is, held_is, kept_then, same_free, same_freed, same_unfinished, same_waiting, same_waits}
+use Rattle.volume_laws.proofs.SpaceLaws.{freed_is, freed_within, held_is, kept_then, same_free, same_freed, same_unfinished, same_waiting, same_waits}
 use Rattle.volume_laws.proofs.ListLaws.{lists_of}
 
 -- ---- the volume behind a force
@@ -103,7 +105,7 @@ forced_to v whole map w log cache map_is removed kept unfinished held log_is cac
   down = refl;
   map = ap (λ (a : Area). a.sectors) map_is;
   removed = ap (λ (a : Area). a.sectors) removed;
-  kept = kept_then v.layout v.shadow.held v.shadow.kept v.shadow.removed w.kept whole.kept whole.removed kept;
+  kept = kept_then v.layout whole.planned v.shadow.held v.shadow.kept v.shadow.removed w.kept whole.kept whole.removed kept;
   unfinished = unfinished;
   held = held;
   log = log_is;
@@ -157,7 +159,7 @@ module _ (v w : VolumeValue) (k : Known) (old new : Moment) (was : IsWholeVolume
     | inl before ↦ out (λ from to. omega (arith, before, from))
     | inr from ↦ elim (cases_lt s v.layout.sectors) [
       | inl within ↦
-          contains_where free_then v.map.from v.map.to s (omega (arith, from, ap (λ (a : Area). a.from) was.map)) (omega (arith, within, ap (λ (a : Area). a.to) was.map))
+          contains_where free_then v.map.from v.map.to s (omega (arith, from, ap (λ (a : Area). a.from) was.map)) (omega (arith, within, most_least v.layout was.planned, ap (λ (a : Area). a.to) was.map))
           ∙ sym (freed_is v k.mounted.volume was stands.fits.layout stands.holds.map stands.holds.removed stands.holds.kept stands.holds.unfinished stands.fits.held stands.disk.spaced s from within)
       | inr past ↦ out (λ from to. omega (arith, past, to))
     ]
@@ -165,8 +167,7 @@ module _ (v w : VolumeValue) (k : Known) (old new : Moment) (was : IsWholeVolume
     where
       out : (data_start v.layout ≤ s → s < v.layout.sectors → ⊥) → contains (freed_sectors v) s ≡ is_free volume s
       out apart =
-          contains_where_outside free_then v.map.from v.map.to s
-          (λ from to. apart (omega (arith, from, ap (λ (a : Area). a.from) was.map)) (omega (arith, to, ap (λ (a : Area). a.to) was.map)))
+          false_from_ne_true (contains (freed_sectors v) s) (λ there. let within = freed_within v was s (free_passes v.map.from v.map.to free_then s there) in apart within.0 within.1)
           ∙ sym (not_free _ _ _ (ap (λ (l : Layout). nat_le (data_start l) s && nat_lt s l.sectors) stands.fits.layout ∙ no_data (data_start v.layout) v.layout.sectors s apart))
 
   removed : (s : ℕ) → contains w.shadow.removed.sectors s ≡ contains volume.removed s

@@ -1,12 +1,11 @@
 -- A volume is whole behind a force.
-use Rattle.std.proofs.Common.{◌≡◌, ◌⊎◌, inl, inr, ℕ, Bool, true, false, cond, not, ◌&&◌, ◌||◌, List, [], ◌∷◌, length, option_map, Option, Some, None, refl, sym, ap, subst, ◌∙◌}
+use Rattle.std.proofs.Common.{◌≡◌, ◌⊎◌, inl, inr, ℕ, ◌<◌, Bool, true, false, cond, not, ◌&&◌, ◌||◌, List, [], ◌∷◌, length, option_map, Option, Some, None, refl, sym, ap, subst, ◌∙◌}
 use Rattle.std.specs.Option.{option_map_or}
 use Rattle.std.proofs.lemmas.Bool.{and_parts, both_ways, false_from_ne_true, not-true, or_cases, or_from, or_parts, and_right}
-use Rattle.volume_layout.specs.Layout.{data_start}
-use Rattle.run_table.specs.Space.{contains, where_free}
+use Rattle.volume_layout.specs.Layout.{data_start, most_of}
+use Rattle.run_table.specs.Space.{contains}
 use Rattle.sector_set.specs.Area.{Area, area}
 use Rattle.sector_set.proofs.AreaLaws.{free_passes}
-use Rattle.sector_set.proofs.FreeLaws.{contains_where, where_same}
 use Rattle.shadow_frees.specs.Readers.{Slots, is_held, unheld, with_held}
 use Rattle.shadow_frees.specs.Waits.{Waits, waits_in}
 use Rattle.log_thirds.specs.LogValue.{LogValue}
@@ -20,7 +19,9 @@ use Rattle.group_commit.proofs.CachedLaws.{before_layout}
 use Rattle.group_commit.proofs.FrameLaws.{held_then}
 use Rattle.volume_laws.specs.Volume.{IsWholeVolume, VolumeValue, WaitsOnce}
 use Rattle.table_survey.specs.Claims.{IsOfData}
+use Rattle.table_survey.proofs.DataLaws.{of_data_within}
 use Rattle.volume_laws.proofs.FreeLaws.{nothing}
+use Rattle.volume_laws.proofs.SpaceLaws.{freed_within, of_test}
 
 -- ---- the log
 
@@ -51,14 +52,11 @@ stamped_pins log c page = ap (λ (o : Option Held). option_map_or (λ h. h.pins)
 
 -- ---- areas
 
-pub own_of : (f : ℕ → Bool) (from to : ℕ) → area from to f ≡ area from to (contains (where_free f from to))
-own_of f from to = λ i. record { from = from; to = to; sectors = where_same f (contains (where_free f from to)) from to (λ s low high. sym (contains_where f from to s low high)) i }
-
 module _ (v : VolumeValue) (whole : IsWholeVolume v) where
   pub from_is : v.map.from ≡ data_start v.layout
   from_is = ap (λ (a : Area). a.from) whole.map
 
-  pub to_is : v.map.to ≡ v.layout.sectors
+  pub to_is : v.map.to ≡ most_of v.layout
   to_is = ap (λ (a : Area). a.to) whole.map
 
   module _ (map : Area) (w : Waits) (log : LogValue) (cache : CacheValue)
@@ -72,6 +70,15 @@ module _ (v : VolumeValue) (whole : IsWholeVolume v) where
     -- what is kept now was kept, or a reader holds it
     kept_passes : (s : ℕ) → contains w.kept.sectors s ≡ true → was_kept s ≡ true
     kept_passes s there = free_passes v.shadow.kept.from v.shadow.kept.to was_kept s (ap (λ (a : Area). contains a.sectors s) (sym kept) ∙ there)
+
+    kept_below : (s : ℕ) → was_kept s ≡ true → s < v.layout.sectors
+    kept_below s there = elim (or_cases (contains v.shadow.kept.sectors s) (contains v.shadow.removed.sectors s && is_held v.shadow.held s) there) [
+      | inl so ↦ (of_data_within v.layout v.shadow.kept whole.kept s so).1
+      | inr went ↦ (of_data_within v.layout v.shadow.removed whole.removed s (and_parts (contains v.shadow.removed.sectors s) (is_held v.shadow.held s) went).0).1
+    ]
+
+    none_of_data : IsOfData v.layout (area v.map.from v.map.to (λ s. false))
+    none_of_data = of_test v.layout v.map (λ s. false) whole.map (λ s there. absurd (both_ways false refl there))
 
     none_removed : (s : ℕ) → contains w.removed.sectors s ≡ false
     none_removed s = ap (λ (a : Area). contains a.sectors s) removed
@@ -122,12 +129,9 @@ module _ (v : VolumeValue) (whole : IsWholeVolume v) where
     whole_forced = record {
       planned = whole.planned;
       map = subst (IsOfData v.layout) (sym map_is)
-          (own_of (λ s. contains v.map.sectors s || contains (unheld v.shadow.held v.shadow.removed).sectors s) v.map.from v.map.to
-          ∙ (λ i. area (from_is i) (to_is i) (contains (where_free (λ s. contains v.map.sectors s || contains (unheld v.shadow.held v.shadow.removed).sectors s) v.map.from v.map.to))));
-      removed = subst (IsOfData v.layout) (sym removed) (λ i. record { from = from_is i; to = to_is i; sectors = sym (nothing (data_start v.layout) v.layout.sectors) i });
-      kept = subst (IsOfData v.layout) (sym kept)
-          (own_of was_kept v.shadow.kept.from v.shadow.kept.to
-          ∙ (λ i. area (ap (λ (a : Area). a.from) whole.kept i) (ap (λ (a : Area). a.to) whole.kept i) (contains (where_free was_kept v.shadow.kept.from v.shadow.kept.to))));
+          (of_test v.layout v.map (λ s. contains v.map.sectors s || contains (unheld v.shadow.held v.shadow.removed).sectors s) whole.map (λ s there. (freed_within v whole s there).1));
+      removed = subst (IsOfData v.layout) ((λ i. record { from = v.map.from; to = v.map.to; sectors = nothing v.map.from v.map.to i }) ∙ sym removed) none_of_data;
+      kept = subst (IsOfData v.layout) (sym kept) (of_test v.layout v.shadow.kept was_kept whole.kept kept_below);
       unfinished = subst (IsOfData v.layout) (sym unfinished) whole.unfinished;
       apart = apart_then;
       once = once_then;

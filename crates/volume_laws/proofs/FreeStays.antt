@@ -4,12 +4,11 @@ use Rattle.std.specs.Prelude.{IsFalse, IsTrue, IfSome, nat_le, nat_lt, slice_get
 use Rattle.std.proofs.lemmas.Bool.{and_parts, and_right, le-ltb, leb-true, ne_eqb, or_from, or_left}
 use Rattle.volume_layout.specs.declared.layout.Layout.{Layout}
 use Rattle.volume_layout.specs.Layout.{data_start, home_a, home_b, is_data}
+use Rattle.volume_layout.proofs.GrownLaws.{most_least}
 use Rattle.run_table.specs.declared.run.Run.{Run}
 use Rattle.run_table.specs.RunTable.{sectors_of}
 use Rattle.run_table.specs.Space.{contains, runs_of}
 use Rattle.run_table.proofs.SectorLaws.{first_there}
-use Rattle.sector_set.specs.Area.{Area}
-use Rattle.sector_set.proofs.AreaLaws.{free_within}
 use Rattle.sector_set.proofs.FreeLaws.{contains_where}
 use Rattle.shadow_frees.specs.Readers.{unheld}
 use Rattle.sector_disk.specs.Image.{Windows, open_damage, sector_at}
@@ -23,6 +22,7 @@ use Rattle.fsd_files.proofs.CountLaws.{contains_occurs, occurs, occurs_contains,
 use Rattle.fsd_files.proofs.KeptLaws.{has_on, kept_in_worn}
 use Rattle.fsd_sound.specs.Sound.{is_home}
 use Rattle.fsd_sound.specs.Writes.{force_writes}
+use Rattle.table_survey.proofs.DataLaws.{of_data_within}
 use Rattle.volume_contract.specs.State.{IsForced, Known, Stands, State}
 use Rattle.volume_laws.specs.State.{IsMemoryOf, freed_sectors, state}
 use Rattle.volume_laws.specs.Volume.{IsWholeVolume, VolumeValue}
@@ -42,9 +42,9 @@ same_runs_have xs ys same s there =
 -- what is free is free behind a force
 pub freed_has : (v w : VolumeValue) → IsWholeVolume v → IsForced (state v) (state w) → (s : ℕ) → IsTrue (contains v.map.sectors s) → IsTrue (contains w.map.sectors s)
 freed_has v w whole is s there =
-    let bounds = free_within (data_start v.layout) v.layout.sectors (contains v.map.sectors) s (subst (λ (a : Area). IsTrue (contains a.sectors s)) whole.map there) in
+    let bounds = of_data_within v.layout v.map whole.map s there in
     let low : v.map.from ≤ s = omega (arith, from_is v whole, bounds.0) in
-    let high : s < v.map.to = omega (arith, to_is v whole, bounds.1) in
+    let high : s < v.map.to = omega (arith, to_is v whole, bounds.1, most_least v.layout whole.planned) in
     let test : ℕ → Bool = λ t. contains v.map.sectors t || contains (unheld v.shadow.held v.shadow.removed).sectors t in
     let freed : IsTrue (contains (freed_sectors v) s) = contains_where test v.map.from v.map.to s low high ∙ or_left (contains v.map.sectors s) (contains (unheld v.shadow.held v.shadow.removed).sectors s) there in
     same_runs_have (freed_sectors v) w.map.sectors (sym (ap (λ (x : State). x.free) is.is)) s freed

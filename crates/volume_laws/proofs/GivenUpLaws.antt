@@ -4,8 +4,8 @@ use Rattle.std.specs.Prelude.{All, IsFalse, IsTrue}
 use Rattle.std.proofs.lemmas.Bool.{both_ways, cases_lt, false_from_ne_true, or_cases, or_from, or_parts}
 use Rattle.run_table.specs.declared.run.Run.{Run}
 use Rattle.run_table.specs.RunTable.{sectors_of}
-use Rattle.run_table.specs.Space.{contains, where_free}
-use Rattle.sector_set.specs.Area.{Area, area, together}
+use Rattle.run_table.specs.Space.{contains}
+use Rattle.sector_set.specs.Area.{Area, together}
 use Rattle.sector_set.proofs.AreaLaws.{free_passes}
 use Rattle.sector_set.proofs.FreeLaws.{contains_where, contains_where_outside}
 use Rattle.shadow_frees.specs.Readers.{IsSameOrApart, Slots, is_held}
@@ -14,7 +14,7 @@ use Rattle.volume_laws.specs.Ending.{GivesUp, Waited}
 use Rattle.volume_laws.specs.Taken.{are_taken}
 use Rattle.volume_laws.specs.Volume.{IsWholeVolume, VolumeValue, WaitsOnce}
 use Rattle.table_survey.specs.Claims.{IsOfData}
-use Rattle.volume_laws.proofs.ForcedLaws.{own_of}
+use Rattle.volume_laws.proofs.SpaceLaws.{of_more}
 use Rattle.volume_laws.proofs.TakenLaws.{taken_is_out}
 
 module _ (v : VolumeValue) (whole : IsWholeVolume v) (runs : List Run) (taken : are_taken v runs ≡ true) where
@@ -63,11 +63,7 @@ module _ (v : VolumeValue) (whole : IsWholeVolume v) (runs : List Run) (taken : 
     whole_waited some is = record {
       planned = whole.planned;
       map = whole.map;
-      removed = subst (IsOfData v.layout) (sym is.removed)
-          (let from = ap (λ (a : Area). a.from) whole.removed in
-          let to = ap (λ (a : Area). a.to) whole.removed in
-          own_of (λ s. contains v.shadow.removed.sectors s || contains (sectors_of runs) s) v.shadow.removed.from v.shadow.removed.to
-          ∙ (λ i. area (from i) (to i) (contains (where_free (λ s. contains v.shadow.removed.sectors s || contains (sectors_of runs) s) v.shadow.removed.from v.shadow.removed.to))));
+      removed = subst (IsOfData v.layout) (sym is.removed) (of_more v.layout v.shadow.removed runs whole.removed (λ s there. let out = (taken_is_out v whole runs taken).0.within s there in omega (arith, out.1)));
       kept = subst (IsOfData v.layout) (sym is.kept) whole.kept;
       unfinished = subst (IsOfData v.layout) (sym is.unfinished) whole.unfinished;
       apart = still_apart is;

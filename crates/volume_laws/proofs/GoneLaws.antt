@@ -1,15 +1,15 @@
 -- What goes with one version, and what a volume is once it has gone or has another keep.
-use Rattle.std.proofs.Common.{◌≡◌, inl, inr, ℕ, ◌<◌, ◌≤◌, Bool, true, false, cond, not, ◌&&◌, ◌||◌, List, [], ◌∷◌, ◌++◌, filter, Option, Some, None, refl, sym, ap, subst, ◌∙◌, arith}
+use Rattle.std.proofs.Common.{◌≡◌, ℕ, ◌<◌, ◌≤◌, Bool, true, false, cond, not, ◌&&◌, ◌||◌, List, [], ◌∷◌, ◌++◌, filter, Option, Some, None, refl, sym, ap, subst, ◌∙◌, arith}
 use Rattle.std.specs.Prelude.{nat_le, nat_lt, ◌==◌}
 use Rattle.std.specs.List.{AllByRecursion, flat_map, list_all, list_any}
 use Rattle.std.specs.Ordering.{is_eq, ordering_reverse}
 use Rattle.std.specs.declared.cmp.Ordering.{Ordering}
 use Rattle.std.specs.declared.cmp.Ordering.TheVariants.{Less, Equal, Greater}
-use Rattle.std.proofs.lemmas.Bool.{and_from, and_parts, cases_lt, false_from_ne_true, leb-true, ltb-true, or_left}
+use Rattle.std.proofs.lemmas.Bool.{and_from, and_parts, false_from_ne_true, leb-true, ltb-true, or_left}
 use Rattle.std.proofs.lemmas.List.{append-nil}
 use Rattle.std.proofs.lemmas.List.Folds.{list_any-append}
 use Rattle.volume_layout.specs.declared.layout.Layout.{Layout}
-use Rattle.volume_layout.specs.Layout.{data_start, is_data}
+use Rattle.volume_layout.specs.Layout.{data_start, is_data, IsPlanned}
 use Rattle.fsd_bytes.specs.declared.key.Key.{Key}
 use Rattle.fsd_bytes.specs.declared.refusal.Refusal.TheVariants.{KeepTooLarge}
 use Rattle.fsd_bytes.specs.Keys.{key_cmp, key_lt, same_key}
@@ -18,7 +18,6 @@ use Rattle.run_table.specs.RunTable.{sectors_of}
 use Rattle.run_table.specs.Space.{all_differ, contains}
 use Rattle.run_table.proofs.SectorLaws.{all_from, all_in}
 use Rattle.sector_set.specs.Area.{Area, together}
-use Rattle.sector_set.proofs.FreeLaws.{contains_where, contains_where_outside}
 use Rattle.fsd_formats.specs.declared.entry.Entry.{Entry}
 use Rattle.fsd_table.specs.Pages.{entry_keys}
 use Rattle.fsd_table.proofs.BoundLaws.{Ascend, ascend_tail}
@@ -38,6 +37,7 @@ use Rattle.fsd_formats.specs.NamePage.{max_keep}
 use Rattle.name_page.proofs.PutLaws.{ascend_head}
 use Rattle.volume_laws.specs.Changing.{IsAfter}
 use Rattle.table_survey.specs.Claims.{IsOfData}
+use Rattle.volume_laws.proofs.SpaceLaws.{test_there}
 
 -- ---- the entry with a key
 
@@ -198,34 +198,24 @@ module _ (v : Volume) (key : Key) (r : ℕ) (e : Entry) (spaced : IsSpaced v) wh
   deleted_kept = left_kept v without_it (gone_sectors (key ∷ []) v.entries) refl refl refl refl split
 
   -- the sectors that wait then
-  pub deleted_waits : (l : Layout) (old : Area) → v.layout ≡ l → IsOfData l old → entries_at (key ∷ []) v.entries ≡ e ∷ [] → ((s : ℕ) → contains old.sectors s ≡ contains v.removed s)
+  pub deleted_waits : (l : Layout) → IsPlanned l → (old : Area) → v.layout ≡ l → IsOfData l old → entries_at (key ∷ []) v.entries ≡ e ∷ [] → ((s : ℕ) → contains old.sectors s ≡ contains v.removed s)
       → (s : ℕ) → contains (together old e.runs).sectors s ≡ contains without_it.removed s
-  deleted_waits l old layout of_data one before s =
-      elim (cases_lt s (data_start l)) [
-        | inl low ↦ outside (λ from to. absurd (omega (arith, low, from)))
-        | inr from ↦ elim (cases_lt s l.sectors) [
-          | inr high ↦ outside (λ low to. absurd (omega (arith, high, to)))
-          | inl to ↦
-              contains_where f old.from old.to s (omega (arith, from, ap (λ (m : Area). m.from) of_data)) (omega (arith, to, ap (λ (m : Area). m.to) of_data))
-              ∙ ap (λ (b : Bool). b || contains (sectors_of e.runs) s) (before s) ∙ ap (λ (b : Bool). contains v.removed s || b) (sym gone) ∙ sym joined
-        ]
-      ]
+  deleted_waits l planned old layout of_data one before s =
+      test_there l planned old.from old.to (λ t. contains old.sectors t || contains (sectors_of e.runs) t) s (ap (λ (m : Area). m.from) of_data) (ap (λ (m : Area). m.to) of_data) (λ out. told ∙ beyond out) ∙ told
     where
-      f : ℕ → Bool
-      f t = contains old.sectors t || contains (sectors_of e.runs) t
-
       joined : contains without_it.removed s ≡ (contains v.removed s || contains (gone_sectors (key ∷ []) v.entries) s)
       joined = list_any-append (λ t. t == s) v.removed (gone_sectors (key ∷ []) v.entries)
 
       gone : contains (gone_sectors (key ∷ []) v.entries) s ≡ contains (sectors_of e.runs) s
       gone = ap (λ (es : List Entry). is_in (plans_of es) s) one ∙ ap (λ (xs : List ℕ). contains xs s) (append-nil (sectors_of e.runs))
 
-      outside : (data_start l ≤ s → s < l.sectors → ⊥) → contains (together old e.runs).sectors s ≡ contains without_it.removed s
-      outside out =
-          contains_where_outside f old.from old.to s (λ from to. out (omega (arith, from, ap (λ (m : Area). m.from) of_data)) (omega (arith, to, ap (λ (m : Area). m.to) of_data)))
-          ∙ sym (false_from_ne_true (contains without_it.removed s) (λ there.
+      told : (contains old.sectors s || contains (sectors_of e.runs) s) ≡ contains without_it.removed s
+      told = ap (λ (b : Bool). b || contains (sectors_of e.runs) s) (before s) ∙ ap (λ (b : Bool). contains v.removed s || b) (sym gone) ∙ sym joined
+
+      beyond : (data_start l ≤ s → s < l.sectors → ⊥) → contains without_it.removed s ≡ false
+      beyond out = false_from_ne_true (contains without_it.removed s) (λ there.
           let area = and_parts (nat_le (data_start v.layout) s) (nat_lt s v.layout.sectors) ((delete_changes v key r e spaced).spaced.area s (or_left (contains without_it.removed s) (is_in v.held s) there)) in
-          out (omega (arith, leb-true (data_start v.layout) s area.0, ap data_start layout)) (omega (arith, ltb-true s v.layout.sectors area.1, ap (λ (x : Layout). x.sectors) layout))))
+          out (omega (arith, leb-true (data_start v.layout) s area.0, ap data_start layout)) (omega (arith, ltb-true s v.layout.sectors area.1, ap (λ (x : Layout). x.sectors) layout)))
 
 -- ---- another keep
 

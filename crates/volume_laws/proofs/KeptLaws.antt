@@ -26,7 +26,8 @@ use Rattle.volume_contract.specs.Order.{Force, IsDownBy, KeepsRefused, force_ste
 use Rattle.volume_laws.specs.Forcing.{force_refusal, down_place}
 use Rattle.volume_laws.specs.State.{freed_sectors, state}
 use Rattle.volume_laws.specs.Volume.{IsWholeVolume, VolumeValue}
-use Rattle.volume_laws.proofs.ForcedLaws.{from_is, to_is, whole_down, whole_forced}
+use Rattle.table_survey.proofs.DataLaws.{of_data_own}
+use Rattle.volume_laws.proofs.ForcedLaws.{whole_down, whole_forced}
 use Rattle.volume_laws.proofs.FreeLaws.{nothing}
 use Rattle.volume_laws.proofs.LogLaws.{Tells, failed_log, forced_logs}
 use Rattle.volume_laws.proofs.SpaceLaws.{held_is}
@@ -70,8 +71,7 @@ none_unheld w none = ap (λ (xs : List ℕ). where_free (λ s. contains xs s && 
 -- where nothing waits for a force, one frees no more
 pub free_same : (v : VolumeValue) → IsWholeVolume v → v.shadow.removed.sectors ≡ [] → v.map.sectors ≡ freed_sectors v
 free_same v whole none =
-    ap (λ (a : Area). a.sectors) whole.map
-    ∙ (λ i. where_free (contains v.map.sectors) (sym (from_is v whole) i) (sym (to_is v whole) i))
+    ap (λ (a : Area). a.sectors) (of_data_own v.layout v.map whole.map)
     ∙ where_same (contains v.map.sectors) (λ s. contains v.map.sectors s || contains (unheld v.shadow.held v.shadow.removed).sectors s) v.map.from v.map.to
     (λ s low high. sym (or-false (contains v.map.sectors s)) ∙ ap (λ (xs : List ℕ). contains v.map.sectors s || contains xs s) (sym (none_unheld v.shadow none)))
 

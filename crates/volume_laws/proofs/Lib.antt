@@ -35,6 +35,7 @@ pub mod FreeStays
 pub mod GivenUpLaws
 pub mod GoingLaws
 pub mod GoneLaws
+pub mod GrowthLaws
 pub mod HoldLaws
 pub mod KeepEnds
 pub mod KeepLaws

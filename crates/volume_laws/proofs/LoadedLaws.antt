@@ -32,6 +32,7 @@ use Rattle.cached_table.specs.Looking.{LooksOnly}
 use Rattle.volume_laws.specs.Entered.{EndsLoaded, StandsLoaded, StandsMade, loading_steps}
 use Rattle.volume_laws.specs.Placing.{IsPlace}
 use Rattle.volume_laws.specs.State.{IsMemoryOf, resident, state}
+use Rattle.volume_laws.specs.Taken.{data_map}
 use Rattle.volume_laws.specs.Volume.{IsWholeVolume, VolumeValue}
 use Rattle.volume_laws.proofs.CountLaws.{count_of_flags}
 use Rattle.volume_laws.proofs.EnterDone.{edits_here, ends_made, here}
@@ -48,7 +49,7 @@ use Rattle.volume_laws.proofs.ReadLaws.{shows_now}
 
 -- a refusal of the table's load is one of its steps
 pub load_comes : {D : Type 0} (M : MachineGhosts D) (m m' : D) (v w : VolumeValue) → v ≡ w → (log : LogValue) (key : Key) (c : CacheValue) (flags : List Bool) (home_a : ℕ) (why : Refusal)
-    → LoadsNone M by_log.ghosts log key v.map v.shadow m m' v.cache c v.free_pages flags home_a why → Comes (loading_steps (state w)) why
+    → LoadsNone M by_log.ghosts log key (data_map v) v.shadow m m' v.cache c v.free_pages flags home_a why → Comes (loading_steps (state w)) why
 load_comes M m m' v w is log key c flags home_a why none =
     asked_follows {T = Key} Why.Exists (state w) (Err why) (refuses_comes (state w) _ _ _ _ (count_by (λ spare. spare) v.free_pages) (free_told v w is) why none.fault)
 
@@ -93,9 +94,9 @@ module _ {D : Type 0} (M : MachineGhosts D) (short : (m : D) → M.honest m → 
 
   -- none is loaded
   pub load_refused : IsCache c → {T : Type 0} (result : Result T Refusal) (why : Refusal) (home_a : ℕ) → IsErrAnd result (λ told. told ≡ why) → EditsOnly M by_log.ghosts log (outer_refusal why) m m' v.cache c v.free_pages flags
-      → LoadsNone M by_log.ghosts log key v.map v.shadow m m' v.cache c v.free_pages flags home_a why → EndsLoaded key keep bytes draft k left (M.now m') result
+      → LoadsNone M by_log.ghosts log key (data_map v) v.shadow m m' v.cache c v.free_pages flags home_a why → EndsLoaded key keep bytes draft k left (M.now m') result
   load_refused valid {T} result why home_a told edits loads =
-      let none = subst (λ (l : LogValue). LoadsNone M by_log.ghosts l key v.map v.shadow m m' v.cache c v.free_pages flags home_a why) of_log loads in
+      let none = subst (λ (l : LogValue). LoadsNone M by_log.ghosts l key (data_map v) v.shadow m m' v.cache c v.free_pages flags home_a why) of_log loads in
       handed (λ (r : Result T Refusal). EndsLoaded key keep bytes draft k left (M.now m') r) result why told
       (refused_by M short m m' v whole cached c flags honest k now_here key.name valid none.kept (load_fault (volume_of k) key) (λ (x : T). StandsLoaded key keep bytes draft k left (M.now m')) ⊥ ⊥
       (OfTableIn M by_log.ghosts v.log m m' v.cache v.free_pages Lacks) (λ told edits lost. lost) (λ told edits used. absurd used)

@@ -1,12 +1,12 @@
 -- Behind a force of a volume what is in memory was so before or stands in the log, and what is told as free was free or waited.
-use Rattle.std.proofs.Common.{◌≡◌, ◌⊎◌, inl, inr, ℕ, Bool, true, false, not, ◌&&◌, ◌||◌, List, [], ◌∷◌, length, option_map, Option, Some, None, refl, sym, ap, subst, ◌∙◌, arith}
+use Rattle.std.proofs.Common.{◌≡◌, ◌⊎◌, inl, inr, ℕ, Bool, true, false, ◌&&◌, ◌||◌, List, [], ◌∷◌, length, option_map, Option, Some, None, refl, sym, ap, subst, ◌∙◌, arith}
 use Rattle.std.specs.Prelude.{IsSome, IsTrue, slice_index_or}
 use Rattle.std.specs.List.{flat_map, list_any}
-use Rattle.std.proofs.lemmas.Bool.{and_parts, or_cases, or_left, or_right}
+use Rattle.std.proofs.lemmas.Bool.{or_cases, or_left, or_right}
 use Rattle.run_table.specs.declared.run.Run.{Run}
 use Rattle.run_table.specs.RunTable.{sectors_of}
 use Rattle.run_table.specs.Space.{contains, runs_of, where_free}
-use Rattle.sector_set.proofs.AreaLaws.{free_passes, free_within}
+use Rattle.sector_set.proofs.AreaLaws.{free_passes}
 use Rattle.shadow_frees.specs.Readers.{is_held, unheld}
 use Rattle.shadow_frees.specs.Waits.{waiting_sectors, waits_in}
 use Rattle.sector_disk.specs.Image.{open_damage}
@@ -16,8 +16,6 @@ use Rattle.fsd_files.specs.Volume.{is_in}
 use Rattle.fsd_files.proofs.CountLaws.{contains_occurs, occurs_contains, runs_same, used, used-cons}
 use Rattle.fsd_files.proofs.KeptLaws.{has_on}
 use Rattle.volume_layout.specs.declared.layout.Layout.{Layout}
-use Rattle.volume_layout.specs.Layout.{data_start}
-use Rattle.sector_set.specs.Area.{Area}
 use Rattle.fsd_log.specs.Slots.{AreOfSlot}
 use Rattle.log_thirds.specs.LogValue.{LogValue}
 use Rattle.log_thirds.specs.Append.{stamp_now}
@@ -33,7 +31,7 @@ use Rattle.volume_laws.specs.State.{freed_sectors, resident, state}
 use Rattle.volume_contract.specs.State.{held_of, held_runs}
 use Rattle.volume_laws.specs.Volume.{IsWholeVolume, VolumeValue}
 use Rattle.volume_laws.proofs.ForceEndLaws.{IsForcedTo}
-use Rattle.volume_laws.proofs.ForcedLaws.{from_is, to_is}
+use Rattle.volume_laws.proofs.SpaceLaws.{unheld_there}
 use Rattle.volume_laws.proofs.TakenLaws.{free_or_waits}
 
 -- what stands in the runs of a list stands in it
@@ -75,16 +73,14 @@ module _ (v w : VolumeValue) (was : IsWholeVolume v) (whole : IsWholeVolume w) (
 
   waited : (t : ℕ) → contains (unheld v.shadow.held v.shadow.removed).sectors t ≡ true → waits_in v.shadow t ≡ true
   waited t there =
-      let passes = free_passes v.shadow.removed.from v.shadow.removed.to (λ s. contains v.shadow.removed.sectors s && not (is_held v.shadow.held s)) t there in
-      or_left (contains v.shadow.removed.sectors t) (contains v.shadow.kept.sectors t || contains v.shadow.unfinished.sectors t) (and_parts (contains v.shadow.removed.sectors t) (not (is_held v.shadow.held t)) passes).0
+      or_left (contains v.shadow.removed.sectors t) (contains v.shadow.kept.sectors t || contains v.shadow.unfinished.sectors t) (unheld_there v.shadow.held v.shadow.removed t there)
 
   -- what is free now was free or waited
   freed_before : (t : ℕ) → contains w.map.sectors t ≡ true → (is_in (runs_of v.map.sectors ∷ []) t || contains (waiting_sectors v.shadow) t) ≡ true
   freed_before t free =
       let test : ℕ → Bool = λ s. contains v.map.sectors s || contains (unheld v.shadow.held v.shadow.removed).sectors s in
       let there : contains (freed_sectors v) t ≡ true = ap (λ (xs : List ℕ). contains xs t) (sym to.map) ∙ free in
-      let bounds = free_within v.map.from v.map.to test t there in
-      free_or_waits v was t (omega (arith, from_is v was, bounds.0)) (omega (arith, to_is v was, bounds.1)) (elim (or_cases (contains v.map.sectors t) (contains (unheld v.shadow.held v.shadow.removed).sectors t) (free_passes v.map.from v.map.to test t there)) [
+      free_or_waits v was t (elim (or_cases (contains v.map.sectors t) (contains (unheld v.shadow.held v.shadow.removed).sectors t) (free_passes v.map.from v.map.to test t there)) [
         | inl so ↦ or_left (contains v.map.sectors t) (waits_in v.shadow t) so
         | inr waiting ↦ or_right (contains v.map.sectors t) (waits_in v.shadow t) (waited t waiting)
       ])
@@ -93,9 +89,7 @@ module _ (v w : VolumeValue) (was : IsWholeVolume v) (whole : IsWholeVolume w) (
   told_before t told = elim (or_cases (is_in (runs_of w.map.sectors ∷ []) t) (contains (waiting_sectors w.shadow) t) told) [
     | inl free ↦ freed_before t (in_runs w.map.sectors t free)
     | inr waiting ↦
-        let bounds = free_within w.shadow.removed.from w.shadow.removed.to (waits_in w.shadow) t waiting in
         free_or_waits v was t
-        (omega (arith, bounds.0, ap (λ (a : Area). a.from) whole.removed, ap data_start to.layout)) (omega (arith, bounds.1, ap (λ (a : Area). a.to) whole.removed, ap (λ (l : Layout). l.sectors) to.layout))
         (or_right (contains v.map.sectors t) (waits_in v.shadow t) (waits_still t (free_passes w.shadow.removed.from w.shadow.removed.to (waits_in w.shadow) t waiting)))
   ]
 

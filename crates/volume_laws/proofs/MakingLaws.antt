@@ -2,12 +2,12 @@
 use Rattle.std.proofs.Common.{◌≡◌, inl, inr, ℕ, ◌<◌, ◌≤◌, Bool, true, false, cond, not, ◌&&◌, ◌||◌, List, [], ◌∷◌, ◌++◌, length, None, Some, refl, sym, ap, subst, ◌∙◌, arith}
 use Rattle.std.proofs.lemmas.Bool.{and_parts, both_ways, false_from_ne_true, le-ltb, lt-ltb, or_cases, or_from, or_parts}
 use Rattle.volume_layout.specs.declared.layout.Layout.{Layout}
-use Rattle.volume_layout.specs.Layout.{data_start}
+use Rattle.volume_layout.proofs.GrownLaws.{most_least}
 use Rattle.run_table.specs.declared.run.Run.{Run}
 use Rattle.run_table.specs.RunTable.{sectors_of}
 use Rattle.run_table.specs.Space.{contains}
 use Rattle.sector_set.specs.Area.{Area, together, without_sectors}
-use Rattle.sector_set.proofs.AreaLaws.{free_passes, free_within}
+use Rattle.sector_set.proofs.AreaLaws.{free_passes}
 use Rattle.shadow_frees.specs.Readers.{Slots, is_held}
 use Rattle.shadow_frees.specs.Waits.{Waits, waits_in}
 use Rattle.fsd_bytes.specs.declared.refusal.Refusal.{Refusal}
@@ -20,10 +20,12 @@ use Rattle.volume_contract.specs.Order.{Comes, Through}
 use Rattle.volume_contract.specs.State.{State}
 use Rattle.cached_table.specs.Entering.{AreInTurn, RefusesFor, with_gone}
 use Rattle.volume_laws.specs.Entered.{entering_steps}
+use Rattle.volume_laws.specs.Taken.{data_map}
 use Rattle.volume_laws.specs.Volume.{IsWholeVolume, VolumeValue, WaitsOnce}
 use Rattle.table_survey.specs.Claims.{IsOfData}
+use Rattle.table_survey.proofs.DataLaws.{of_data_within}
 use Rattle.volume_laws.proofs.EnteredSpace.{gone_at, in_first}
-use Rattle.volume_laws.proofs.PieceLaws.{of_test}
+use Rattle.volume_laws.proofs.SpaceLaws.{of_fewer, of_more}
 
 -- ---- the order of refusals
 
@@ -52,9 +54,11 @@ module _ (s : State) where
 
 -- ---- the parts of a volume
 
-of_gone : (l : Layout) (m : Area) (gone : List Leaving) → IsOfData l m → IsOfData l (with_gone m gone)
-of_gone l m [] of_data = of_data
-of_gone l m (g ∷ gone) of_data = of_gone l (together m g.entry.runs) gone (of_test l m (λ s. contains m.sectors s || contains (sectors_of g.entry.runs) s) of_data)
+-- what goes lies where the map ends at the latest
+of_gone : (l : Layout) (map : Area) (w : Waits) (m : Area) (seen gone : List Leaving) → map.to ≤ l.sectors → AreInTurn map w seen gone → IsOfData l m → IsOfData l (with_gone m gone)
+of_gone l map w m seen [] ends turn of_data = of_data
+of_gone l map w m seen (g ∷ gone) ends turn of_data =
+    of_gone l map w (together m g.entry.runs) (seen ++ g ∷ []) gone ends turn.1 (of_more l m g.entry.runs of_data (λ s here. let at = turn.0.0.0.within s here in omega (arith, at.1, ends)))
 
 -- what goes is none of the free sectors
 gone_taken : (map : Area) (w : Waits) (seen gone : List Leaving) (s : ℕ) → AreInTurn map w seen gone → contains map.sectors s ≡ true → is_in (plans_of (entries_left gone)) s ≡ false
@@ -81,27 +85,27 @@ gone_once map w removed seen (g ∷ gone) s were turn there = gone_once map w (t
 abbrev pub with_if : Bool → Area → List Leaving → Area
 with_if b removed gone = cond b (with_gone removed gone) removed
 
-module _ (v : VolumeValue) (whole : IsWholeVolume v) (c : CacheValue) (flags : List Bool) (edited : IsWholeVolume (record v { cache = c; free_pages = flags })) (gone : List Leaving) (turn : AreInTurn v.map v.shadow [] gone)
+module _ (v : VolumeValue) (whole : IsWholeVolume v) (c : CacheValue) (flags : List Bool) (edited : IsWholeVolume (record v { cache = c; free_pages = flags })) (gone : List Leaving) (turn : AreInTurn (data_map v) v.shadow [] gone)
     (b : Bool) (dry : c.dirty ≡ [] → b ≡ false) (free : Area) (of_free : IsOfData v.layout free) (was_free : (s : ℕ) → contains free.sectors s ≡ true → contains v.map.sectors s ≡ true) (w : Waits) (versions : ℕ)
     (removed : w.removed ≡ with_if b v.shadow.removed gone) (kept : w.kept ≡ v.shadow.kept) (unfinished : w.unfinished ≡ v.shadow.unfinished) (held : w.held ≡ v.shadow.held) where
   of_removed : (x : Bool) → IsOfData v.layout (with_if x v.shadow.removed gone)
-  of_removed true = of_gone v.layout v.shadow.removed gone whole.removed
+  of_removed true = of_gone v.layout (data_map v) v.shadow v.shadow.removed [] gone (omega arith) turn whole.removed
   of_removed false = whole.removed
 
   apart : (s : ℕ) → contains free.sectors s ≡ true → waits_in w s ≡ false
   apart s is =
       let old = was_free s is in
       let none = or_parts (contains v.shadow.removed.sectors s) (contains v.shadow.kept.sectors s || contains v.shadow.unfinished.sectors s) (whole.apart s old) in
-      let at = free_within (data_start v.layout) v.layout.sectors (contains v.map.sectors) s (ap (λ (m : Area). contains m.sectors s) (sym whole.map) ∙ old) in
+      let at = of_data_within v.layout v.map whole.map s old in
       let low : v.shadow.removed.from ≤ s = omega (arith, at.0, ap (λ (m : Area). m.from) whole.removed) in
-      let high : s < v.shadow.removed.to = omega (arith, at.1, ap (λ (m : Area). m.to) whole.removed) in
+      let high : s < v.shadow.removed.to = omega (arith, at.1, most_least v.layout whole.planned, ap (λ (m : Area). m.to) whole.removed) in
       or_from (contains w.removed.sectors s) (contains w.kept.sectors s || contains w.unfinished.sectors s)
       (ap (λ (m : Area). contains m.sectors s) removed ∙ by b none.0 low high old)
       ((λ i. contains (kept i).sectors s || contains (unfinished i).sectors s) ∙ none.1)
     where
       by : (x : Bool) → contains v.shadow.removed.sectors s ≡ false → v.shadow.removed.from ≤ s → s < v.shadow.removed.to → contains v.map.sectors s ≡ true → contains (with_if x v.shadow.removed gone).sectors s ≡ false
       by false none low high old = none
-      by true none low high old = gone_at v.shadow.removed gone s low high ∙ or_from (contains v.shadow.removed.sectors s) (is_in (plans_of (entries_left gone)) s) none (gone_taken v.map v.shadow [] gone s turn old)
+      by true none low high old = gone_at v.shadow.removed gone s low high ∙ or_from (contains v.shadow.removed.sectors s) (is_in (plans_of (entries_left gone)) s) none (gone_taken (data_map v) v.shadow [] gone s turn old)
 
   -- what goes does not wait already
   once_entered : WaitsOnce w
@@ -114,7 +118,7 @@ module _ (v : VolumeValue) (whole : IsWholeVolume v) (c : CacheValue) (flags : L
     where
       by : (x : Bool) (s : ℕ) → contains (with_if x v.shadow.removed gone).sectors s ≡ true → (contains v.shadow.kept.sectors s || contains v.shadow.unfinished.sectors s) ≡ false
       by false s there = whole.once.removed s there
-      by true s there = gone_once v.map v.shadow v.shadow.removed [] gone s (whole.once.removed s) turn there
+      by true s there = gone_once (data_map v) v.shadow v.shadow.removed [] gone s (whole.once.removed s) turn there
 
   -- it is whole once what goes waits
   pub whole_going : IsWholeVolume (record v { map = free; shadow = w; cache = c; free_pages = flags; versions = versions })
@@ -136,7 +140,7 @@ module _ (v : VolumeValue) (whole : IsWholeVolume v) (c : CacheValue) (flags : L
     still = λ none. ap (λ (m : Area). m.sectors) removed ∙ ap (λ (x : Bool). (with_if x v.shadow.removed gone).sectors) (dry none) ∙ edited.still none;
   }
 
-module _ (v : VolumeValue) (whole : IsWholeVolume v) (c : CacheValue) (flags : List Bool) (edited : IsWholeVolume (record v { cache = c; free_pages = flags })) (runs : List Run) (gone : List Leaving) (turn : AreInTurn v.map v.shadow [] gone)
+module _ (v : VolumeValue) (whole : IsWholeVolume v) (c : CacheValue) (flags : List Bool) (edited : IsWholeVolume (record v { cache = c; free_pages = flags })) (runs : List Run) (gone : List Leaving) (turn : AreInTurn (data_map v) v.shadow [] gone)
     (b : Bool) (dry : c.dirty ≡ [] → b ≡ false) (free : Area) (w : Waits) (versions : ℕ) (taken : free ≡ without_sectors v.map runs) (removed : w.removed ≡ with_if b v.shadow.removed gone)
     (kept : w.kept ≡ v.shadow.kept) (unfinished : w.unfinished ≡ v.shadow.unfinished) (held : w.held ≡ v.shadow.held) where
   -- a free sector was free
@@ -147,5 +151,5 @@ module _ (v : VolumeValue) (whole : IsWholeVolume v) (c : CacheValue) (flags : L
   -- it is whole once the version's sectors are taken, and what goes waits
   pub whole_entered : IsWholeVolume (record v { map = free; shadow = w; cache = c; free_pages = flags; versions = versions })
   whole_entered =
-      whole_going v whole c flags edited gone turn b dry free (subst (IsOfData v.layout) (sym taken) (of_test v.layout v.map (λ s. contains v.map.sectors s && not (contains (sectors_of runs) s)) whole.map)) was_free
+      whole_going v whole c flags edited gone turn b dry free (subst (IsOfData v.layout) (sym taken) (of_fewer v.layout v.map (λ s. not (contains (sectors_of runs) s)) whole.map)) was_free
       w versions removed kept unfinished held

@@ -21,7 +21,7 @@ use Rattle.cached_table.specs.Entering.{AreTaken, ShowsMet, ShowsUnsound}
 use Rattle.cached_table.specs.Looking.{HavePages, LooksOnly}
 use Rattle.volume_laws.specs.Meeting.{ShowsEntry}
 use Rattle.volume_laws.specs.State.{resident, state}
-use Rattle.volume_laws.specs.Taken.{are_taken}
+use Rattle.volume_laws.specs.Taken.{are_taken, data_map}
 use Rattle.volume_laws.specs.Volume.{IsWholeVolume, VolumeValue}
 use Rattle.volume_laws.proofs.CauseLaws.{cause_of}
 use Rattle.volume_laws.proofs.EditedLaws.{lost_copies}
@@ -61,7 +61,7 @@ module _ {D : Type 0} (M : MachineGhosts D) (m m' : D) (v : VolumeValue) (whole 
   shows_met : ShowsEntry (state v) new (resident v) (M.now m) (M.now m') f
   shows_met = record { read = read_then; are_read = all_read; is = λ pages have. met.leads pages (have_then pages have) }
 
-  met_breaks : (home place : ℕ) → home ≡ home_a v.layout 0 → f.page < length v.free_pages → place ≡ home_in home f.page → (AreTaken v.map v.shadow f.entry.runs → ⊥) → ShowsBreak (state v) new (resident v) (M.now m) (M.now m') place
+  met_breaks : (home place : ℕ) → home ≡ home_a v.layout 0 → f.page < length v.free_pages → place ≡ home_in home f.page → (AreTaken (data_map v) v.shadow f.entry.runs → ⊥) → ShowsBreak (state v) new (resident v) (M.now m) (M.now m') place
   met_breaks home place first within is untaken =
       let bounds = planned_bounds v.layout whole.planned in
       let lt : f.page < v.layout.pages = omega (arith, within, whole.pages) in
@@ -71,7 +71,7 @@ module _ {D : Type 0} (M : MachineGhosts D) (m m' : D) (v : VolumeValue) (whole 
 
 module _ {D : Type 0} (M : MachineGhosts D) (m m' : D) (v w : VolumeValue) (is : v ≡ w) (whole : IsWholeVolume v) (c : CacheValue) (flags : List Bool) (log : LogValue) (of_log : log ≡ v.log) (home : ℕ) (first : home ≡ home_a v.layout 0) (why : Refusal)
     (edits : EditsOnly M by_log.ghosts log (outer_refusal why) m m' v.cache c v.free_pages flags) (looks : LooksOnly M by_log.ghosts log (outer_refusal why) m m' v.cache c v.free_pages)
-    (shown : ShowsUnsound M by_log.ghosts log v.map v.shadow m m' v.cache c v.free_pages home why) (honest : M.honest m') where
+    (shown : ShowsUnsound M by_log.ghosts log (data_map v) v.shadow m m' v.cache c v.free_pages home why) (honest : M.honest m') where
   abbrev left : VolumeValue
   left = record v { cache = c; free_pages = flags }
 
@@ -80,8 +80,8 @@ module _ {D : Type 0} (M : MachineGhosts D) (m m' : D) (v w : VolumeValue) (is :
 
   unsound_here : (place : ℕ) → why ≡ Why.Unsound place → ShowsBreak (state v) (state left) (resident v) (M.now m) (M.now m') place
   unsound_here place same =
-      let here = subst (λ (l : LogValue). ShowsUnsound M by_log.ghosts l v.map v.shadow m m' v.cache c v.free_pages home (Why.Unsound place)) of_log
-      (subst (λ (r : Refusal). ShowsUnsound M by_log.ghosts log v.map v.shadow m m' v.cache c v.free_pages home r) same shown) in
+      let here = subst (λ (l : LogValue). ShowsUnsound M by_log.ghosts l (data_map v) v.shadow m m' v.cache c v.free_pages home (Why.Unsound place)) of_log
+      (subst (λ (r : Refusal). ShowsUnsound M by_log.ghosts log (data_map v) v.shadow m m' v.cache c v.free_pages home r) same shown) in
       elim (here honest) [
         | inl shows ↦ unsound_shown M m m' v whole c (outer_refusal why) looks_here honest (state left) home place first shows
         | inr met ↦ met_breaks M m m' v whole c (outer_refusal why) looks_here honest (state left) met.0 met.1 home place first met.2 met.3 met.4

@@ -7,7 +7,6 @@ use Rattle.std.proofs.lemmas.List.{take_all, length-take-le}
 use Rattle.std.proofs.lemmas.List.Folds.{list_any-append}
 use Rattle.volume_layout.specs.declared.layout.Layout.{Layout}
 use Rattle.volume_layout.specs.Kinds.{longest_of}
-use Rattle.volume_layout.specs.Layout.{turned}
 use Rattle.volume_layout.proofs.RegionLaws.{regions_apart}
 use Rattle.sector_disk.specs.declared.sector.Sector.{Sector}
 use Rattle.sector_disk.specs.declared.sector.WeakRun.{WeakRun}
@@ -32,7 +31,7 @@ use Rattle.fsd_sound.proofs.BesideLaws.{beside_saves, lies_own, said_shows, said
 use Rattle.fsd_sound.proofs.SaidLaws.{planned_beside, said_again}
 use Rattle.fsd_sound.proofs.WindowLaws.{last_snoc}
 use Rattle.mount_recover.specs.Recover.{ShowsVolume}
-use Rattle.mount_recover.specs.Replay.{IsBehindSettle, IsBefore}
+use Rattle.mount_recover.specs.Replay.{IsBehindSettle}
 use Rattle.volume_contract.specs.Mount.{IsSoundAt}
 
 -- ---- in more windows
@@ -96,7 +95,7 @@ pub all_lie : (l : Layout) (windows : List WeakRun) (h : List Change) (f : ℕ) 
 all_lie l windows h f i lists pages one = lies_own l (in_runs windows) i h f (told_in pages) (lists.tells pages one)
 
 module _ (l : Layout) (i : Image) (layout : Layout) where
-  said_tells : (windows : List WeakRun) (h : List Change) (f : ℕ) (lists : TellsChoices l windows h f i) → IsSaid l i layout → (pages : List (List ℕ)) → Contains lists.choices pages → Tells layout (in_runs windows) i h f (told_in pages)
+  pub said_tells : (windows : List WeakRun) (h : List Change) (f : ℕ) (lists : TellsChoices l windows h f i) → IsSaid l i layout → (pages : List (List ℕ)) → Contains lists.choices pages → Tells layout (in_runs windows) i h f (told_in pages)
   said_tells windows h f lists (inl is) pages one = subst (λ (k : Layout). Tells k (in_runs windows) i h f (told_in pages)) (sym is) (lists.tells pages one)
   said_tells windows h f lists (inr is) pages one = tells_in l layout (in_runs windows) i h f (told_in pages) (lists.tells pages one) (lists.shows.within layout is.0 is.1 pages one)
 

@@ -18,6 +18,7 @@ use Rattle.cached_table.specs.Moving.{NoneMoves}
 use Rattle.volume_laws.specs.Ending.{IsEdited, moving_steps}
 use Rattle.volume_laws.specs.Entered.{entering_asks, entering_steps, making_look}
 use Rattle.volume_laws.specs.State.{state}
+use Rattle.volume_laws.specs.Taken.{data_map}
 use Rattle.volume_laws.specs.Volume.{IsWholeVolume, VolumeValue}
 use Rattle.volume_laws.proofs.EnteredCalls.{free_told}
 use Rattle.volume_laws.proofs.MakingLaws.{refuses_comes, whole_going, with_if}
@@ -64,7 +65,7 @@ other_fault (Ok x) why told some is = absurd (cc is)
 other_fault {other = other} (Err x) why told some is = let same : x ≡ other = cc is in absurd (some (sym told ∙ same))
 
 module _ (v w : VolumeValue) (is : v ≡ w) where
-  pub move_comes : {D : Type 0} (M : MachineGhosts D) (m m' : D) (log : LogValue) (key : Key) (name : List ℕ) (c : CacheValue) (flags : List Bool) (why : Refusal) → NoneMoves M by_log.ghosts log v.map v.shadow key name m m' v.cache c v.free_pages flags why
+  pub move_comes : {D : Type 0} (M : MachineGhosts D) (m m' : D) (log : LogValue) (key : Key) (name : List ℕ) (c : CacheValue) (flags : List Bool) (why : Refusal) → NoneMoves M by_log.ghosts log (data_map v) v.shadow key name m m' v.cache c v.free_pages flags why
       → Comes (entering_steps (state w)) why
   move_comes M m m' log key name c flags why none = refuses_comes (state w) _ _ _ _ (count_by (λ spare. spare) v.free_pages) (free_told v w is) why none
 
@@ -75,6 +76,6 @@ module _ (v w : VolumeValue) (is : v ≡ w) where
       subst (λ (x : VolumeValue). IsEdited (state x) left) is (record { is = λ i. record left { readers = held i; unfinished = (unfinished i).sectors } })
 
 -- it is whole
-pub whole_moved : (v : VolumeValue) → IsWholeVolume v → (c : CacheValue) (flags : List Bool) → IsWholeVolume (record v { cache = c; free_pages = flags }) → (gone : List Leaving) → AreInTurn v.map v.shadow [] gone → (b : Bool) → (c.dirty ≡ [] → b ≡ false)
+pub whole_moved : (v : VolumeValue) → IsWholeVolume v → (c : CacheValue) (flags : List Bool) → IsWholeVolume (record v { cache = c; free_pages = flags }) → (gone : List Leaving) → AreInTurn (data_map v) v.shadow [] gone → (b : Bool) → (c.dirty ≡ [] → b ≡ false)
     → (w : Waits) (versions : ℕ) → w.removed ≡ with_if b v.shadow.removed gone → w.kept ≡ v.shadow.kept → w.unfinished ≡ v.shadow.unfinished → w.held ≡ v.shadow.held → IsWholeVolume (record v { shadow = w; cache = c; free_pages = flags; versions = versions })
 whole_moved v whole c flags edited gone turn b dry w versions removed kept unfinished held = whole_going v whole c flags edited gone turn b dry v.map whole.map (λ s is. is) w versions removed kept unfinished held

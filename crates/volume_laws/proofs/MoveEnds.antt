@@ -38,6 +38,7 @@ use Rattle.cached_table.specs.Moving.{NoneMoves}
 use Rattle.volume_laws.specs.Ending.{EndsMove}
 use Rattle.volume_laws.specs.Entered.{EndsEntered}
 use Rattle.volume_laws.specs.State.{IsMemoryOf, state}
+use Rattle.volume_laws.specs.Taken.{data_map}
 use Rattle.volume_laws.specs.Volume.{IsWholeVolume, VolumeValue}
 use Rattle.volume_laws.proofs.ChangeEnds.{answered_none, answered_so}
 use Rattle.volume_laws.proofs.EnterDone.{some_wait}
@@ -106,7 +107,7 @@ module _ {D : Type 0} (M : MachineGhosts D) (short : (m : D) → M.honest m → 
       ∙ ap (entry_of key) (one_table k.mounted.pages height first.0 (subst (λ (pages : List (List ℕ)). IsTree pages height) was tree) first.1 ∙ first.2)
       ∙ there
 
-  none_for : (why : Refusal) → NoneMoves M by_log.ghosts v.log v.map v.shadow key name m m' v.cache c v.free_pages flags why → NoneFor M by_log.ghosts v.log v.map v.shadow name m m' v.cache c v.free_pages flags why
+  none_for : (why : Refusal) → NoneMoves M by_log.ghosts v.log (data_map v) v.shadow key name m m' v.cache c v.free_pages flags why → NoneFor M by_log.ghosts v.log (data_map v) v.shadow name m m' v.cache c v.free_pages flags why
   none_for why none = refuses_with _ _ _ _ _ (count_by (λ spare. spare) v.free_pages) (λ used trust height tree. by height (found_in height tree) (used trust height tree)) why none
     where
       by : (height : ℕ) → entry_of key (table_of images height) ≡ Some e → (max_u32 < (next_key name (table_of images height)).version) ⊎ (entry_of key (table_of images height) ≡ None) → max_u32 < (next_key name (table_of images height)).version
@@ -114,14 +115,14 @@ module _ {D : Type 0} (M : MachineGhosts D) (short : (m : D) → M.honest m → 
       by height has (inr none) = absurd (cc (has, none))
 
   pub move_refused : IsCache c → (result : Result Key Refusal) (why : Refusal) → IsErrAnd result (λ told. told ≡ why) → EditsOnly M by_log.ghosts log (outer_refusal why) m m' v.cache c v.free_pages flags
-      → StaysInCache M by_log.ghosts log m m' v.cache c v.free_pages flags → NoneMoves M by_log.ghosts log v.map v.shadow key name m m' v.cache c v.free_pages flags why → EndsMove key name k (record v { cache = c; free_pages = flags }) (M.now m') result
+      → StaysInCache M by_log.ghosts log m m' v.cache c v.free_pages flags → NoneMoves M by_log.ghosts log (data_map v) v.shadow key name m m' v.cache c v.free_pages flags why → EndsMove key name k (record v { cache = c; free_pages = flags }) (M.now m') result
   move_refused valid result why told edits stays none =
       handed (λ (r : Result Key Refusal). EndsMove key name k (record v { cache = c; free_pages = flags }) (M.now m') r) result why told
       (entered_ends k (record v { cache = c; free_pages = flags }) (M.now m') key name e few_dirty there None [] e why
       (refused_ends M short m m' v whole cached c flags honest k here name None [] e valid
       (subst (λ (l : LogValue). StaysInCache M by_log.ghosts l m m' v.cache c v.free_pages flags) of_log stays) why
       (subst (λ (l : LogValue). EditsOnly M by_log.ghosts l (outer_refusal why) m m' v.cache c v.free_pages flags) of_log edits)
-      (none_for why (subst (λ (l : LogValue). NoneMoves M by_log.ghosts l v.map v.shadow key name m m' v.cache c v.free_pages flags why) of_log none))))
+      (none_for why (subst (λ (l : LogValue). NoneMoves M by_log.ghosts l (data_map v) v.shadow key name m m' v.cache c v.free_pages flags why) of_log none))))
 
   -- ---- it is moved
 

@@ -107,7 +107,7 @@ module _ {D : Type 0} (M : MachineGhosts D) (short : (m : D) → M.honest m → 
         (record {
           map = λ s. now.holds.map s ∙ sym (moved_free (volume_of k) key name e reached_moved sorted lists there s);
           removed = λ s. ap (λ (a : Area). contains a.sectors s) frees
-              ∙ gone_wait (volume_of k) volume_moved (gone_by_move key name (has (volume_of k) key name e reached_moved sorted lists there).file (volume_of k).files) refl refl after.changes v.layout v.shadow.removed others now.fits.layout whole.removed
+              ∙ gone_wait (volume_of k) volume_moved (gone_by_move key name (has (volume_of k) key name e reached_moved sorted lists there).file (volume_of k).files) refl refl after.changes v.layout whole.planned v.shadow.removed others now.fits.layout whole.removed
               (gone_are (volume_of k) key name e reached_moved sorted lists there plan planned moved others goes) now.holds.removed s;
           kept = λ s. ap (λ (a : Area). contains a.sectors s) kept ∙ now.holds.kept s ∙ sym (moved_alone (volume_of k) key name e reached_moved sorted lists there s);
           unfinished = λ s. ap (λ (a : Area). contains a.sectors s) unfinished ∙ now.holds.unfinished s;

@@ -4,12 +4,13 @@ use Rattle.std.specs.Prelude.{drop, option_map, replicate}
 use Rattle.std.specs.List.{AllZip, list_any}
 use Rattle.std.proofs.lemmas.Bool.{and_parts, both_ways, false_from_ne_true, not-true, or_cases, or_from, or_parts, or_right}
 use Rattle.volume_layout.specs.declared.layout.Layout.{Layout}
-use Rattle.volume_layout.specs.Layout.{data_start}
+use Rattle.volume_layout.specs.Layout.{data_start, IsPlanned}
+use Rattle.volume_layout.proofs.GrownLaws.{most_least}
 use Rattle.run_table.specs.declared.run.Run.{Run}
 use Rattle.run_table.specs.RunTable.{same_runs, sectors_of, total}
-use Rattle.run_table.specs.Space.{contains, where_free}
+use Rattle.run_table.specs.Space.{contains}
 use Rattle.run_table.proofs.SectorLaws.{length_of_sectors}
-use Rattle.sector_set.specs.Area.{Area, AreIn, AreOut, area, together, without_sectors}
+use Rattle.sector_set.specs.Area.{Area, AreIn, AreOut, together, without_sectors}
 use Rattle.shadow_frees.specs.Waits.{AreIdle, Waits, waits_in}
 use Rattle.sector_disk.specs.Image.{open_damage}
 use Rattle.sector_disk.specs.Machine.{Moment}
@@ -30,31 +31,26 @@ use Rattle.volume_laws.specs.Placing.{IsPlace, drawn_known, drawn_volume}
 use Rattle.volume_laws.specs.State.{IsMemoryOf, state}
 use Rattle.volume_laws.specs.Volume.{IsWholeVolume, VolumeValue}
 use Rattle.table_survey.specs.Claims.{IsOfData}
-use Rattle.volume_laws.proofs.ForcedLaws.{own_of}
+use Rattle.table_survey.proofs.DataLaws.{of_data_within}
 use Rattle.volume_laws.proofs.OpenedLaws.{each_zip, zip_each, free_again, free_more, in_fewer, mounted_fewer, mounted_more, reopen, drafts_more}
 use Rattle.volume_laws.proofs.WrittenLaws.{stands_drawn}
-use Rattle.volume_laws.proofs.SpaceLaws.{by_area, none_outside, same_free, same_freed, same_unfinished, same_waiting, same_waits, test_there}
+use Rattle.volume_laws.proofs.SpaceLaws.{none_outside, of_fewer, of_more, same_free, same_freed, same_unfinished, same_waiting, same_waits, test_there}
 
 -- ---- sets
 
-pub of_test : (l : Layout) (m : Area) (f : ℕ → Bool) → IsOfData l m → IsOfData l (area m.from m.to f)
-of_test l m f of_data =
-    own_of f m.from m.to ∙ (λ i. area (ap (λ (a : Area). a.from) of_data i) (ap (λ (a : Area). a.to) of_data i) (contains (where_free f m.from m.to)))
-
-pub with_runs : (l : Layout) (m : Area) (runs : List Run) → IsOfData l m → ((s : ℕ) → contains (sectors_of runs) s ≡ true → (data_start l ≤ s) × (s < l.sectors)) → (s : ℕ) → contains (together m runs).sectors s ≡ (contains m.sectors s || contains (sectors_of runs) s)
-with_runs l m runs of_data within s =
-    test_there l m.from m.to (λ t. contains m.sectors t || contains (sectors_of runs) t) s (ap (λ (a : Area). a.from) of_data) (ap (λ (a : Area). a.to) of_data)
+pub with_runs : (l : Layout) → IsPlanned l → (m : Area) (runs : List Run) → IsOfData l m → ((s : ℕ) → contains (sectors_of runs) s ≡ true → (data_start l ≤ s) × (s < l.sectors)) → (s : ℕ) → contains (together m runs).sectors s ≡ (contains m.sectors s || contains (sectors_of runs) s)
+with_runs l planned m runs of_data within s =
+    test_there l planned m.from m.to (λ t. contains m.sectors t || contains (sectors_of runs) t) s (ap (λ (a : Area). a.from) of_data) (ap (λ (a : Area). a.to) of_data)
     (λ out. λ i. none_outside l m s of_data out i || false_from_ne_true (contains (sectors_of runs) s) (λ here. let w = within s here in out w.0 w.1) i)
 
-pub without_runs : (l : Layout) (m : Area) (runs : List Run) → IsOfData l m → (s : ℕ) → contains (without_sectors m runs).sectors s ≡ (contains m.sectors s && not (contains (sectors_of runs) s))
-without_runs l m runs of_data s =
-    test_there l m.from m.to (λ t. contains m.sectors t && not (contains (sectors_of runs) t)) s (ap (λ (a : Area). a.from) of_data) (ap (λ (a : Area). a.to) of_data)
+pub without_runs : (l : Layout) → IsPlanned l → (m : Area) (runs : List Run) → IsOfData l m → (s : ℕ) → contains (without_sectors m runs).sectors s ≡ (contains m.sectors s && not (contains (sectors_of runs) s))
+without_runs l planned m runs of_data s =
+    test_there l planned m.from m.to (λ t. contains m.sectors t && not (contains (sectors_of runs) t)) s (ap (λ (a : Area). a.from) of_data) (ap (λ (a : Area). a.to) of_data)
     (λ out. ap (λ (b : Bool). b && not (contains (sectors_of runs) s)) (none_outside l m s of_data out))
 
 -- sectors of a set of the data area lie in it
 pub in_data : (l : Layout) (m : Area) (runs : List Run) → IsOfData l m → AreIn m runs → (s : ℕ) → contains (sectors_of runs) s ≡ true → (data_start l ≤ s) × (s < l.sectors)
-in_data l m runs of_data are s here =
-    by_area l s (λ low high. (low, high)) (λ out. absurd (both_ways (contains m.sectors s) (none_outside l m s of_data out) (are.inside s here)))
+in_data l m runs of_data are s here = of_data_within l m of_data s (are.inside s here)
 
 -- ---- what is open, and what it tells
 
@@ -144,10 +140,10 @@ module _ (v : VolumeValue) (whole : IsWholeVolume v) (runs : List Run) (are : Ar
   )
 
   pub unfinished_left : (s : ℕ) → contains (without_sectors v.shadow.unfinished runs).sectors s ≡ (contains v.shadow.unfinished.sectors s && not (contains (sectors_of runs) s))
-  unfinished_left = without_runs v.layout v.shadow.unfinished runs whole.unfinished
+  unfinished_left = without_runs v.layout whole.planned v.shadow.unfinished runs whole.unfinished
 
   pub map_more : (s : ℕ) → contains (together v.map runs).sectors s ≡ (contains v.map.sectors s || contains (sectors_of runs) s)
-  map_more = with_runs v.layout v.map runs whole.map (in_data v.layout v.shadow.unfinished runs whole.unfinished are)
+  map_more = with_runs v.layout whole.planned v.map runs whole.map (in_data v.layout v.shadow.unfinished runs whole.unfinished are)
 
   less : (s : ℕ) → contains v.shadow.unfinished.sectors s ≡ false → contains (without_sectors v.shadow.unfinished runs).sectors s ≡ false
   less s none = unfinished_left s ∙ ap (λ (b : Bool). b && not (contains (sectors_of runs) s)) none
@@ -173,10 +169,10 @@ module _ (v : VolumeValue) (whole : IsWholeVolume v) (runs : List Run) (are : Ar
   pub whole_abandoned : IsWholeVolume (abandoned v runs)
   whole_abandoned = record {
     planned = whole.planned;
-    map = of_test v.layout v.map (λ s. contains v.map.sectors s || contains (sectors_of runs) s) whole.map;
+    map = of_more v.layout v.map runs whole.map (λ s here. (in_data v.layout v.shadow.unfinished runs whole.unfinished are s here).1);
     removed = whole.removed;
     kept = whole.kept;
-    unfinished = of_test v.layout v.shadow.unfinished (λ s. contains v.shadow.unfinished.sectors s && not (contains (sectors_of runs) s)) whole.unfinished;
+    unfinished = of_fewer v.layout v.shadow.unfinished (λ s. not (contains (sectors_of runs) s)) whole.unfinished;
     apart = apart_over;
     once = record {
       removed = λ s there.
@@ -229,10 +225,10 @@ reserved v runs = record v { map = without_sectors v.map runs; shadow = record v
 
 module _ (v : VolumeValue) (whole : IsWholeVolume v) (runs : List Run) (are : AreIn v.map runs) where
   pub unfinished_more : (s : ℕ) → contains (together v.shadow.unfinished runs).sectors s ≡ (contains v.shadow.unfinished.sectors s || contains (sectors_of runs) s)
-  unfinished_more = with_runs v.layout v.shadow.unfinished runs whole.unfinished (in_data v.layout v.map runs whole.map are)
+  unfinished_more = with_runs v.layout whole.planned v.shadow.unfinished runs whole.unfinished (in_data v.layout v.map runs whole.map are)
 
   pub map_fewer : (s : ℕ) → contains (without_sectors v.map runs).sectors s ≡ (contains v.map.sectors s && not (contains (sectors_of runs) s))
-  map_fewer = without_runs v.layout v.map runs whole.map
+  map_fewer = without_runs v.layout whole.planned v.map runs whole.map
 
   -- what was free waited nowhere
   idle_at : (s : ℕ) → contains (sectors_of runs) s ≡ true → (contains v.shadow.removed.sectors s ≡ false) × (contains v.shadow.kept.sectors s ≡ false) × (contains v.shadow.unfinished.sectors s ≡ false)
@@ -250,10 +246,10 @@ module _ (v : VolumeValue) (whole : IsWholeVolume v) (runs : List Run) (are : Ar
   pub whole_reserved : IsWholeVolume (reserved v runs)
   whole_reserved = record {
     planned = whole.planned;
-    map = of_test v.layout v.map (λ s. contains v.map.sectors s && not (contains (sectors_of runs) s)) whole.map;
+    map = of_fewer v.layout v.map (λ s. not (contains (sectors_of runs) s)) whole.map;
     removed = whole.removed;
     kept = whole.kept;
-    unfinished = of_test v.layout v.shadow.unfinished (λ s. contains v.shadow.unfinished.sectors s || contains (sectors_of runs) s) whole.unfinished;
+    unfinished = of_more v.layout v.shadow.unfinished runs whole.unfinished (λ s here. (in_data v.layout v.map runs whole.map are s here).1);
     apart = λ s there.
         let parts = and_parts (contains v.map.sectors s) (not (contains (sectors_of runs) s)) (sym (map_fewer s) ∙ there) in
         let none = or_parts (contains v.shadow.removed.sectors s) (contains v.shadow.kept.sectors s || contains v.shadow.unfinished.sectors s) (whole.apart s parts.0) in
@@ -316,7 +312,7 @@ module _ (v : VolumeValue) (whole : IsWholeVolume v) (runs : List Run) (are : Ar
 -- sectors of a set of the data area that wait are not free
 pub waiting_out : (v : VolumeValue) → IsWholeVolume v → (m : Area) (runs : List Run) → IsOfData v.layout m → AreIn m runs → ((s : ℕ) → contains m.sectors s ≡ true → waits_in v.shadow s ≡ true) → AreOut v.map runs
 waiting_out v whole m runs of_data are waiting = record {
-  within = λ s here. let at = in_data v.layout m runs of_data are s here in (omega (arith, at.0, ap (λ (a : Area). a.from) whole.map), omega (arith, at.1, ap (λ (a : Area). a.to) whole.map));
+  within = λ s here. let at = in_data v.layout m runs of_data are s here in (omega (arith, at.0, ap (λ (a : Area). a.from) whole.map), omega (arith, at.1, most_least v.layout whole.planned, ap (λ (a : Area). a.to) whole.map));
   outside = λ s here. false_from_ne_true (contains v.map.sectors s) (λ free. both_ways (waits_in v.shadow s) (whole.apart s free) (waiting s (are.inside s here)));
   differ = are.differ;
 }
@@ -361,7 +357,7 @@ module _ (v w : VolumeValue) (is : v ≡ w) (whole : IsWholeVolume v) (len : ℕ
       within : (m : Area) → IsOfData v.layout m → (s : ℕ) → contains (sectors_of runs) s ≡ true → (m.from ≤ s) × (s < m.to)
       within m of_data s here =
           let at = in_data v.layout v.map runs whole.map place_in s here in
-          (omega (arith, at.0, ap (λ (a : Area). a.from) of_data), omega (arith, at.1, ap (λ (a : Area). a.to) of_data))
+          (omega (arith, at.0, ap (λ (a : Area). a.from) of_data), omega (arith, at.1, most_least v.layout whole.planned, ap (λ (a : Area). a.to) of_data))
 
   module _ (map : Area) (shadow : Waits) (map_is : map ≡ without_sectors v.map runs) (removed : shadow.removed ≡ v.shadow.removed) (kept : shadow.kept ≡ v.shadow.kept) (unfinished : shadow.unfinished ≡ together v.shadow.unfinished runs) (held : shadow.held ≡ v.shadow.held) where
     begun_is : reserved v runs ≡ record v { map = map; shadow = shadow }

@@ -19,17 +19,16 @@ use Rattle.alloc_map.specs.declared.no_place.NoPlace.{NoPlace}
 use Rattle.alloc_map.specs.declared.no_place.NoPlace.TheVariants.{NoSpace as Few, TooFragmented as Broken}
 use Rattle.alloc_map.proofs.ChooseLaws.{best_within}
 use Rattle.sector_set.specs.Area.{Area, AreIn}
-use Rattle.sector_set.proofs.AreaLaws.{free_within}
 use Rattle.sector_set.proofs.FreeLaws.{total_of_runs}
 use Rattle.version_data.proofs.PlaceLaws.{index_there}
 use Rattle.volume_layout.specs.declared.layout.Layout.{Layout}
-use Rattle.volume_layout.specs.Layout.{data_start}
 use Rattle.fsd_files.proofs.CountLaws.{occurs, contains_occurs, occurs_differ, picked_once}
 use Rattle.volume_contract.specs.State.{State}
 use Rattle.volume_laws.specs.Placing.{IsPlace, place_now, place_or}
 use Rattle.volume_laws.specs.State.{state}
 use Rattle.volume_laws.specs.Volume.{IsWholeVolume, VolumeValue}
 use Rattle.table_survey.specs.Claims.{IsOfData}
+use Rattle.table_survey.proofs.DataLaws.{of_data_own, of_data_within}
 
 -- ---- what the code chooses is what the definitions do
 
@@ -147,10 +146,10 @@ pick_few runs need one some = by (find (λ r. nat_le need r.length) runs)
 pub picked_place : (l : Layout) (map : Area) (need : ℕ) (runs : List Run) → IsOfData l map → 1 ≤ need → pick (runs_of map.sectors) need ≡ Some runs → IsPlace map need runs
 picked_place l map need runs of_data one is =
     let free : ℕ → Bool = contains map.sectors in
-    let own : map.sectors ≡ where_free free (data_start l) l.sectors = ap (λ (m : Area). m.sectors) of_data in
-    let among : pick (runs_of (where_free free (data_start l) l.sectors)) need ≡ Some runs = ap (λ (xs : List ℕ). pick (runs_of xs) need) (sym own) ∙ is in
+    let own : map.sectors ≡ where_free free map.from map.to = ap (λ (m : Area). m.sectors) (of_data_own l map of_data) in
+    let among : pick (runs_of (where_free free map.from map.to)) need ≡ Some runs = ap (λ (xs : List ℕ). pick (runs_of xs) need) (sym own) ∙ is in
     let each : (s : ℕ) → (occurs s (sectors_of runs) ≤ 1) × (0 < occurs s (sectors_of runs) → IsTrue (free s)) =
-    λ s. subst (λ (o : Option (List Run)). IfSome o (λ out. (occurs s (sectors_of out) ≤ 1) × (0 < occurs s (sectors_of out) → IsTrue (free s)))) among (picked_once free (data_start l) l.sectors need s) in
+    λ s. subst (λ (o : Option (List Run)). IfSome o (λ out. (occurs s (sectors_of out) ≤ 1) × (0 < occurs s (sectors_of out) → IsTrue (free s)))) among (picked_once free map.from map.to need s) in
     let small = subst (λ (o : Option (List Run)). IfSome o (Few8 8)) is (pick_few (runs_of map.sectors) need one (runs_some map.sectors)) in
     record {
       free = record {
@@ -171,8 +170,7 @@ chosen_place {v = v} same need runs whole one is =
 pub free_below : (l : Layout) (map : Area) (runs : List Run) → IsOfData l map → AreIn map runs → All (λ s. s < l.sectors) (sectors_of runs)
 free_below l map runs of_data are k d lt =
     let s : ℕ = slice_index_or (sectors_of runs) k d in
-    let there : IsTrue (contains (where_free (contains map.sectors) (data_start l) l.sectors) s) = subst (λ (m : Area). IsTrue (contains m.sectors s)) of_data (are.inside s (index_there (sectors_of runs) k d lt)) in
-    (free_within (data_start l) l.sectors (contains map.sectors) s there).1
+    (of_data_within l map of_data s (are.inside s (index_there (sectors_of runs) k d lt))).1
 
 -- ---- the version as it is written
 

@@ -33,8 +33,8 @@ use Rattle.volume_laws.specs.Taken.{are_taken}
 use Rattle.volume_laws.proofs.TakenLaws.{taken_is_out}
 use Rattle.volume_laws.specs.Volume.{IsWholeVolume, VolumeValue}
 use Rattle.volume_laws.proofs.OpenedLaws.{alone_held, free_held, held_by, mounted_given, mounted_held, reopen, same_or_apart, used_apart}
-use Rattle.volume_laws.proofs.SpaceLaws.{held_is}
-use Rattle.volume_laws.proofs.PieceLaws.{as_opened, in_data, mounted_opened, of_test, places_held, stands_opened, waiting_out, with_runs, without_runs, written_opened}
+use Rattle.volume_laws.proofs.SpaceLaws.{held_is, of_fewer, of_more}
+use Rattle.volume_laws.proofs.PieceLaws.{as_opened, in_data, mounted_opened, places_held, stands_opened, waiting_out, with_runs, without_runs, written_opened}
 
 -- ---- places
 
@@ -206,10 +206,10 @@ module _ (v : VolumeValue) (whole : IsWholeVolume v) (p : ℕ) (runs : List Run)
   -- where the runs are given back, they were kept for this reader alone
   module _ (are : AreIn v.shadow.kept runs) (unheld : AreUnheld (set v.shadow.held p None) runs) where
     pub kept_left : (s : ℕ) → contains (without_sectors v.shadow.kept runs).sectors s ≡ (contains v.shadow.kept.sectors s && not (contains (sectors_of runs) s))
-    kept_left = without_runs v.layout v.shadow.kept runs whole.kept
+    kept_left = without_runs v.layout whole.planned v.shadow.kept runs whole.kept
 
     pub map_given : (s : ℕ) → contains (together v.map runs).sectors s ≡ (contains v.map.sectors s || contains (sectors_of runs) s)
-    map_given = with_runs v.layout v.map runs whole.map (in_data v.layout v.shadow.kept runs whole.kept are)
+    map_given = with_runs v.layout whole.planned v.map runs whole.map (in_data v.layout v.shadow.kept runs whole.kept are)
 
     fewer_kept : (s : ℕ) → contains (without_sectors v.shadow.kept runs).sectors s ≡ true → (contains v.shadow.kept.sectors s ≡ true) × (contains (sectors_of runs) s ≡ false)
     fewer_kept s now =
@@ -222,9 +222,9 @@ module _ (v : VolumeValue) (whole : IsWholeVolume v) (p : ℕ) (runs : List Run)
     pub whole_given : IsWholeVolume (record v { map = together v.map runs; shadow = record v.shadow { kept = without_sectors v.shadow.kept runs; held = others } })
     whole_given = record {
       planned = whole.planned;
-      map = of_test v.layout v.map (λ s. contains v.map.sectors s || contains (sectors_of runs) s) whole.map;
+      map = of_more v.layout v.map runs whole.map (λ s here. (in_data v.layout v.shadow.kept runs whole.kept are s here).1);
       removed = whole.removed;
-      kept = of_test v.layout v.shadow.kept (λ s. contains v.shadow.kept.sectors s && not (contains (sectors_of runs) s)) whole.kept;
+      kept = of_fewer v.layout v.shadow.kept (λ s. not (contains (sectors_of runs) s)) whole.kept;
       unfinished = whole.unfinished;
       apart = λ s now. elim (or_cases (contains v.map.sectors s) (contains (sectors_of runs) s) (sym (map_given s) ∙ now)) [
         | inl was ↦

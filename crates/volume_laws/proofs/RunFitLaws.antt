@@ -1,10 +1,9 @@
 -- The runs of a place fit an entry: their starts lie on the volume, and none is long.
-use Rattle.std.proofs.Common.{◌≡◌, ℕ, ◌+◌, ◌^◌, ◌<◌, ◌≤◌, nat_le, nat_lt, true, ◌&&◌, List, [], ◌∷◌, length, sym, ap, ◌∙◌, arith}
+use Rattle.std.proofs.Common.{◌≡◌, ℕ, ◌+◌, ◌^◌, ◌<◌, ◌≤◌, nat_le, nat_lt, true, ◌&&◌, List, [], ◌∷◌, length, ◌∙◌, arith}
 use Rattle.std.specs.Prelude.{◌==◌}
 use Rattle.std.specs.List.{AllByRecursion, list_all, range_with_len}
 use Rattle.std.proofs.lemmas.Bool.{and_from, and_parts, le-leb, leb-true, lt-ltb, or_left, or_right}
 use Rattle.volume_layout.specs.declared.layout.Layout.{Layout}
-use Rattle.volume_layout.specs.Layout.{data_start}
 use Rattle.fsd_bytes.specs.Keys.{is_key}
 use Rattle.fsd_bytes.specs.Names.{is_between}
 use Rattle.run_table.specs.declared.run.Run.{Run}
@@ -12,11 +11,11 @@ use Rattle.run_table.specs.RunTable.{FitsRun, are_runs, max_runs, sectors_of, to
 use Rattle.run_table.specs.Space.{contains}
 use Rattle.run_table.proofs.SectorLaws.{contains-cons}
 use Rattle.sector_set.specs.Area.{Area, AreIn}
-use Rattle.sector_set.proofs.AreaLaws.{free_within}
 use Rattle.sector_set.proofs.FreeLaws.{contains_range}
 use Rattle.fsd_formats.specs.declared.entry.Entry.{Entry}
 use Rattle.fsd_formats.specs.NamePage.{is_entry, max_keep, max_length, sectors_for}
 use Rattle.table_survey.specs.Claims.{IsOfData}
+use Rattle.table_survey.proofs.DataLaws.{of_data_within}
 
 first_in : (r : Run) (runs : List Run) → 1 ≤ r.length → contains (sectors_of (r ∷ runs)) r.start ≡ true
 first_in r runs some =
@@ -27,7 +26,7 @@ first_in r runs some =
 
 module _ (l : Layout) (map : Area) (of_data : IsOfData l map) (narrow : l.sectors < 2 ^ 32) where
   below : (s : ℕ) → contains map.sectors s ≡ true → s < l.sectors
-  below s free = (free_within (data_start l) l.sectors (contains map.sectors) s (ap (λ (m : Area). contains m.sectors s) (sym of_data) ∙ free)).1
+  below s free = (of_data_within l map of_data s free).1
 
   runs_fit : (runs : List Run) → ((s : ℕ) → contains (sectors_of runs) s ≡ true → contains map.sectors s ≡ true) → list_all (λ r. is_between 1 65535 r.length) runs ≡ true → AllByRecursion FitsRun runs
   runs_fit [] free short = tt

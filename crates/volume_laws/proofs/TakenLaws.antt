@@ -10,6 +10,7 @@ use Rattle.run_table.proofs.SameLaws.{runs_are_same, same_runs_are}
 use Rattle.run_table.proofs.SectorLaws.{all_from, all_in}
 use Rattle.volume_layout.specs.declared.layout.Layout.{Layout}
 use Rattle.volume_layout.specs.Layout.{data_start, is_data}
+use Rattle.volume_layout.proofs.GrownLaws.{most_least}
 use Rattle.fsd_formats.specs.declared.entry.Entry.{Entry}
 use Rattle.sector_set.specs.Area.{Area, AreOut}
 use Rattle.sector_set.proofs.AreaLaws.{free_passes}
@@ -28,13 +29,15 @@ use Rattle.fsd_sound.specs.Mounted.{Mounted}
 use Rattle.shadow_frees.specs.Readers.{IsSameOrApart, Slots}
 use Rattle.shadow_frees.proofs.SoundLaws.{all_cons}
 use Rattle.shadow_frees.proofs.HeldLaws.{agrees_back}
-use Rattle.shadow_frees.specs.Waits.{AreIdle, waiting_sectors, waits_in}
+use Rattle.shadow_frees.specs.Waits.{waiting_sectors, waits_in}
+use Rattle.cached_table.specs.Entering.{AreTaken}
 use Rattle.volume_contract.specs.Causes.{HasUntaken, IsTaken, meets_held}
 use Rattle.volume_laws.specs.State.{IsMemoryOf, state}
 use Rattle.volume_contract.specs.State.{held_of, held_runs}
-use Rattle.volume_laws.specs.Taken.{are_taken, is_taken}
+use Rattle.volume_laws.specs.Taken.{are_taken, data_map, is_taken}
 use Rattle.volume_laws.specs.Volume.{IsWholeVolume, VolumeValue}
 use Rattle.table_survey.specs.Claims.{IsOfData}
+use Rattle.volume_laws.proofs.SpaceLaws.{waits_within}
 
 -- ---- each sector of a list
 
@@ -75,8 +78,8 @@ apart_agreed (Some other ∷ slots) runs none =
 -- ---- as the map and the shadow have it
 
 module _ (v : VolumeValue) (whole : IsWholeVolume v) (runs : List Run) where
-  out_is_taken : AreOut v.map runs → AreIdle v.shadow runs → All (IsSameOrApart runs) v.shadow.held → are_taken v runs ≡ true
-  out_is_taken out idle agree =
+  out_is_taken : AreTaken (data_map v) v.shadow runs → are_taken v runs ≡ true
+  out_is_taken (out, idle, agree) =
       and_from (all_differ (sectors_of runs) && list_all (is_taken v) (sectors_of runs)) (not (meets_held (held_runs v.shadow.held) runs))
       (and_from (all_differ (sectors_of runs)) (list_all (is_taken v) (sectors_of runs)) out.differ (all_from (is_taken v) (sectors_of runs) each))
       (ap not (agreed_apart v.shadow.held runs agree))
@@ -85,19 +88,19 @@ module _ (v : VolumeValue) (whole : IsWholeVolume v) (runs : List Run) where
       each s there =
           let within = out.within s there in
           let low : data_start v.layout ≤ s = omega (arith, within.0, ap (λ (a : Area). a.from) whole.map) in
-          let high : s < v.layout.sectors = omega (arith, within.1, ap (λ (a : Area). a.to) whole.map) in
+          let high : s < v.layout.sectors = omega (arith, within.1) in
           let data_there : is_data v.layout s ≡ true = and_from (nat_le (data_start v.layout) s) (nat_lt s v.layout.sectors) (le-leb (data_start v.layout) s low) (lt-ltb s v.layout.sectors high) in
           let none : (contains v.map.sectors s || waits_in v.shadow s) ≡ false =
           λ i. out.outside s there i || (idle.0.outside s there i || (idle.1.outside s there i || idle.2.outside s there i)) in
           and_from (is_data v.layout s) (not (contains v.map.sectors s || waits_in v.shadow s)) data_there (ap not none)
 
-  pub taken_is_out : are_taken v runs ≡ true → AreOut v.map runs × AreIdle v.shadow runs × All (IsSameOrApart runs) v.shadow.held
+  pub taken_is_out : are_taken v runs ≡ true → AreTaken (data_map v) v.shadow runs
   taken_is_out taken = (
-    out v.map whole.map (λ s none. (or_parts (contains v.map.sectors s) (waits_in v.shadow s) none).0),
+    out (data_map v) (ap (λ (a : Area). a.from) whole.map) (omega (arith, longer v.map whole.map)) (λ s none. (or_parts (contains v.map.sectors s) (waits_in v.shadow s) none).0),
     (
-      out v.shadow.removed whole.removed (λ s none. (or_parts (contains v.shadow.removed.sectors s) _ (or_parts (contains v.map.sectors s) (waits_in v.shadow s) none).1).0),
-      out v.shadow.kept whole.kept (λ s none. (or_parts (contains v.shadow.kept.sectors s) _ (or_parts (contains v.shadow.removed.sectors s) _ (or_parts (contains v.map.sectors s) (waits_in v.shadow s) none).1).1).0),
-      out v.shadow.unfinished whole.unfinished (λ s none. (or_parts (contains v.shadow.kept.sectors s) _ (or_parts (contains v.shadow.removed.sectors s) _ (or_parts (contains v.map.sectors s) (waits_in v.shadow s) none).1).1).1),
+      out_of v.shadow.removed whole.removed (λ s none. (or_parts (contains v.shadow.removed.sectors s) _ (or_parts (contains v.map.sectors s) (waits_in v.shadow s) none).1).0),
+      out_of v.shadow.kept whole.kept (λ s none. (or_parts (contains v.shadow.kept.sectors s) _ (or_parts (contains v.shadow.removed.sectors s) _ (or_parts (contains v.map.sectors s) (waits_in v.shadow s) none).1).1).0),
+      out_of v.shadow.unfinished whole.unfinished (λ s none. (or_parts (contains v.shadow.kept.sectors s) _ (or_parts (contains v.shadow.removed.sectors s) _ (or_parts (contains v.map.sectors s) (waits_in v.shadow s) none).1).1).1),
     ),
     apart_agreed v.shadow.held runs (not-true (meets_held (held_runs v.shadow.held) runs) both.1),
   )
@@ -108,35 +111,30 @@ module _ (v : VolumeValue) (whole : IsWholeVolume v) (runs : List Run) where
       parts : (all_differ (sectors_of runs) ≡ true) × (list_all (is_taken v) (sectors_of runs) ≡ true)
       parts = and_parts (all_differ (sectors_of runs)) (list_all (is_taken v) (sectors_of runs)) both.0
 
-      out : (m : Area) → IsOfData v.layout m → ((s : ℕ) → (contains v.map.sectors s || waits_in v.shadow s) ≡ false → contains m.sectors s ≡ false) → AreOut m runs
-      out m of_data outside =
+      longer : (m : Area) → IsOfData v.layout m → v.layout.sectors ≤ m.to
+      longer m of_data = omega (arith, most_least v.layout whole.planned, ap (λ (a : Area). a.to) of_data)
+
+      out : (m : Area) → m.from ≡ data_start v.layout → v.layout.sectors ≤ m.to → ((s : ℕ) → (contains v.map.sectors s || waits_in v.shadow s) ≡ false → contains m.sectors s ≡ false) → AreOut m runs
+      out m first last outside =
           let each : (s : ℕ) → contains (sectors_of runs) s ≡ true → (is_data v.layout s ≡ true) × (not (contains v.map.sectors s || waits_in v.shadow s) ≡ true) =
           λ s there. and_parts (is_data v.layout s) (not (contains v.map.sectors s || waits_in v.shadow s)) (all_in (is_taken v) (sectors_of runs) s parts.1 there) in
           record {
             within = λ s there.
                 let area = and_parts (nat_le (data_start v.layout) s) (nat_lt s v.layout.sectors) (each s there).0 in (
-                  omega (arith, leb-true (data_start v.layout) s area.0, ap (λ (a : Area). a.from) of_data),
-                  omega (arith, ltb-true s v.layout.sectors area.1, ap (λ (a : Area). a.to) of_data),
+                  omega (arith, leb-true (data_start v.layout) s area.0, first),
+                  omega (arith, ltb-true s v.layout.sectors area.1, last),
                 );
             outside = λ s there. outside s (not-true (contains v.map.sectors s || waits_in v.shadow s) (each s there).1);
             differ = parts.0;
           }
 
--- the map, and what waits, and what readers hold, say so together
-pub taken_by : (v w : VolumeValue) → v ≡ w → IsWholeVolume v → (runs : List Run) (out idle agree : Bool) → (IsTrue out ↔ AreOut v.map runs) → (IsTrue idle ↔ AreIdle v.shadow runs) → (IsTrue agree ↔ All (IsSameOrApart runs) v.shadow.held) → (out && idle && agree) ≡ are_taken w runs
-taken_by v w is whole runs out idle agree by_map by_shadow by_readers =
-    same_answer (out && idle && agree) (are_taken v runs)
-    (λ all. let both = and_parts (out && idle) agree all in let first = and_parts out idle both.0 in out_is_taken v whole runs (by_map.0 first.0) (by_shadow.0 first.1) (by_readers.0 both.1))
-    (λ taken. let is_out = taken_is_out v whole runs taken in and_from (out && idle) agree (and_from out idle (by_map.1 is_out.0) (by_shadow.1 is_out.1)) (by_readers.1 is_out.2))
-    ∙ ap (λ (x : VolumeValue). are_taken x runs) is
+      out_of : (m : Area) → IsOfData v.layout m → ((s : ℕ) → (contains v.map.sectors s || waits_in v.shadow s) ≡ false → contains m.sectors s ≡ false) → AreOut m runs
+      out_of m of_data outside = out m (ap (λ (a : Area). a.from) of_data) (longer m of_data) outside
 
-pub taken_not : (v w : VolumeValue) → v ≡ w → IsWholeVolume v → (runs : List Run) (out : Bool) → (IsTrue out ↔ AreOut v.map runs) → out ≡ false → out ≡ are_taken w runs
-taken_not v w is whole runs out by_map fails =
-    same_answer out (are_taken v runs) (λ holds. absurd (both_ways out fails holds)) (λ taken. by_map.1 (taken_is_out v whole runs taken).0) ∙ ap (λ (x : VolumeValue). are_taken x runs) is
-
-pub idle_not : (v w : VolumeValue) → v ≡ w → IsWholeVolume v → (runs : List Run) (idle : Bool) → (IsTrue idle ↔ AreIdle v.shadow runs) → idle ≡ false → idle ≡ are_taken w runs
-idle_not v w is whole runs idle by_shadow fails =
-    same_answer idle (are_taken v runs) (λ holds. absurd (both_ways idle fails holds)) (λ taken. by_shadow.1 (taken_is_out v whole runs taken).1) ∙ ap (λ (x : VolumeValue). are_taken x runs) is
+-- a test that says so tells which are taken
+pub taken_by : (v w : VolumeValue) → v ≡ w → IsWholeVolume v → (runs : List Run) (told : Bool) → (IsTrue told ↔ AreTaken (data_map v) v.shadow runs) → told ≡ are_taken w runs
+taken_by v w is whole runs told by_sets =
+    same_answer told (are_taken v runs) (λ holds. out_is_taken v whole runs (by_sets.0 holds)) (λ taken. by_sets.1 (taken_is_out v whole runs taken)) ∙ ap (λ (x : VolumeValue). are_taken x runs) is
 
 -- ---- those of a table's entries
 
@@ -204,12 +202,16 @@ some_fails p (x ∷ xs) none = by (p x) refl none (some_fails p xs)
     by false here rest more = (x, or_left (x == x) (contains xs x) (eq-eqb x x refl), here)
 
 -- a sector that is free or waits is told so
-pub free_or_waits : (v : VolumeValue) → IsWholeVolume v → (t : ℕ) → data_start v.layout ≤ t → t < v.layout.sectors → (contains v.map.sectors t || waits_in v.shadow t) ≡ true → (is_in (runs_of v.map.sectors ∷ []) t || contains (waiting_sectors v.shadow) t) ≡ true
-free_or_waits v whole t low high either = elim (or_cases (contains v.map.sectors t) (waits_in v.shadow t) either) [
+pub free_or_waits : (v : VolumeValue) → IsWholeVolume v → (t : ℕ) → (contains v.map.sectors t || waits_in v.shadow t) ≡ true → (is_in (runs_of v.map.sectors ∷ []) t || contains (waiting_sectors v.shadow) t) ≡ true
+free_or_waits v whole t either = elim (or_cases (contains v.map.sectors t) (waits_in v.shadow t) either) [
   | inl free ↦ or_left (is_in (runs_of v.map.sectors ∷ []) t) (contains (waiting_sectors v.shadow) t)
       (occurs_contains t (flat_map sectors_of (runs_of v.map.sectors ∷ [])) (omega (arith, used-cons t (runs_of v.map.sectors) [], runs_same t v.map.sectors, contains_occurs t v.map.sectors free)))
-  | inr waiting ↦ or_right (is_in (runs_of v.map.sectors ∷ []) t) (contains (waiting_sectors v.shadow) t)
-      (contains_where (waits_in v.shadow) v.shadow.removed.from v.shadow.removed.to t (omega (arith, ap (λ (m : Area). m.from) whole.removed)) (omega (arith, ap (λ (m : Area). m.to) whole.removed)) ∙ waiting)
+  | inr waiting ↦
+      let within = waits_within v whole t waiting in
+      or_right (is_in (runs_of v.map.sectors ∷ []) t) (contains (waiting_sectors v.shadow) t)
+      (contains_where (waits_in v.shadow) v.shadow.removed.from v.shadow.removed.to t (omega (arith, within.0, ap (λ (m : Area). m.from) whole.removed))
+      (omega (arith, within.1, most_least v.layout whole.planned, ap (λ (m : Area). m.to) whole.removed))
+      ∙ waiting)
 ]
 
 -- one whose sectors are not taken breaks the table, or has a sector that is free or waits
@@ -224,9 +226,8 @@ module _ (v : VolumeValue) (whole : IsWholeVolume v) (pages : List (List ℕ)) (
       by false outside not_here = inl (breaks (or_right (not (all_differ (sectors_of e.runs))) _
           (any_at (λ s. not (is_data v.layout s) || contains (taken_before e.key (entries_in (visits pages))) s) (sectors_of e.runs) t there (or_left (not (is_data v.layout t)) _ (ap not outside)))))
       by true inside not_here =
-          let area = and_parts (nat_le (data_start v.layout) t) (nat_lt t v.layout.sectors) inside in
           inr (or_left _ (meets_held (held_of (state v)) e.runs) (any_at (λ s. is_in ((state v).free ∷ []) s || contains (state v).waiting s) (sectors_of e.runs) t there
-          (free_or_waits v whole t (leb-true (data_start v.layout) t area.0) (ltb-true t v.layout.sectors area.1) (not-false (contains v.map.sectors t || waits_in v.shadow t) not_here))))
+          (free_or_waits v whole t (not-false (contains v.map.sectors t || waits_in v.shadow t) not_here))))
 
   pub untaken_breaks : are_taken v e.runs ≡ false → Breaks v.layout pages visit.page ⊎ HasUntaken (state v) e
   untaken_breaks not_taken = by (all_differ (sectors_of e.runs)) refl (list_all (is_taken v) (sectors_of e.runs)) refl not_taken

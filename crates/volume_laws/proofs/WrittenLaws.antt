@@ -5,8 +5,7 @@ use Rattle.std.proofs.lemmas.Bool.{and_from, both_ways, le-leb, lt-ltb, or_left}
 use Rattle.volume_layout.specs.Layout.{data_start, is_data}
 use Rattle.fsd_bytes.specs.declared.key.Serial.{Serial}
 use Rattle.run_table.specs.Space.{contains}
-use Rattle.sector_set.specs.Area.{Area}
-use Rattle.sector_set.proofs.AreaLaws.{free_within}
+use Rattle.table_survey.proofs.DataLaws.{of_data_within}
 use Rattle.sector_disk.specs.declared.sector.Sector.{Sector}
 use Rattle.sector_disk.specs.declared.sector.Sector.TheVariants.{Damaged}
 use Rattle.sector_disk.specs.Image.{AreShort, IsWorn, open_damage, sector_at}
@@ -131,7 +130,7 @@ writes_data v whole sectors free old left writes = record {
   where
     in_data : (s : ℕ) → contains v.map.sectors s ≡ true → is_data v.layout s ≡ true
     in_data s there =
-        let within = free_within (data_start v.layout) v.layout.sectors (contains v.map.sectors) s (subst (λ (m : Area). contains m.sectors s ≡ true) whole.map there) in
+        let within = of_data_within v.layout v.map whole.map s there in
         and_from (nat_le (data_start v.layout) s) (nat_lt s v.layout.sectors) (le-leb (data_start v.layout) s within.0) (lt-ltb s v.layout.sectors within.1)
 
     by : (s : ℕ) (b : Bool) → contains sectors s ≡ b → is_data v.layout s ≡ false → contains sectors s ≡ false

@@ -4,6 +4,7 @@ pub mod Completed
 pub mod Ending
 pub mod Entered
 pub mod Forcing
+pub mod Grown
 pub mod Meeting
 pub mod Placing
 pub mod Preparing

@@ -1,5 +1,5 @@
 -- What a volume tells, and what it is of.
-use Rattle.std.specs.Prelude.{◌≡◌, ℕ, ◌<◌, false, not, ◌||◌, ◌==◌, List, Option, Some, Ok, length, slice_index_or}
+use Rattle.std.specs.Prelude.{◌≡◌, ℕ, ◌<◌, false, not, ◌||◌, ◌==◌, List, Option, Some, length, slice_index_or}
 use Rattle.volume_layout.specs.Layout.{IsPlanned}
 use Rattle.run_table.specs.Space.{contains, where_free, runs_of}
 use Rattle.shadow_frees.specs.Readers.{unheld}

@@ -1,5 +1,5 @@
 -- The steps of a call that none of them has refused.
-use Rattle.std.specs.Prelude.{◌≡◌, ⊥, true, List, [], ◌∷◌}
+use Rattle.std.specs.Prelude.{◌≡◌, true, List, [], ◌∷◌}
 use Rattle.volume_contract.specs.Order.{PassesTest, CallStep, Draw, Force, Roots, with_drawn}
 use Rattle.volume_contract.specs.State.{IsForced, State}
 

@@ -8,10 +8,16 @@ use Rattle.run_table.specs.Space.{contains, all_differ}
 use Rattle.fsd_bytes.specs.declared.refusal.Refusal.{Refusal}
 use Rattle.fsd_bytes.specs.declared.refusal.Refusal.TheVariants as Why
 use Rattle.fsd_formats.specs.declared.entry.Entry.{Entry}
+use Rattle.sector_set.specs.Area.{Area}
 use Rattle.shadow_frees.specs.Waits.{waits_in}
+use Rattle.cached_table.specs.Entering.{up_to}
 use Rattle.volume_contract.specs.Causes.{meets_held}
 use Rattle.volume_contract.specs.State.{held_runs}
 use Rattle.volume_laws.specs.Volume.{VolumeValue}
+
+-- the free sectors, in the data area as it ends now
+abbrev pub data_map : VolumeValue → Area
+data_map v = up_to v.layout.sectors v.map
 
 -- the sector lies in the data area, and is neither free nor waiting
 abbrev pub is_taken : VolumeValue → ℕ → Bool

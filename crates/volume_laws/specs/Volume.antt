@@ -1,5 +1,5 @@
 -- A volume by its parts, and what holds of them over any machine.
-use Rattle.std.specs.Prelude.{◌≡◌, ◌⊎◌, ℕ, ◌<◌, ◌-◌, ◌^◌, Bool, ◌||◌, List, [], Option, None, Ok, length, IsTrue, IsFalse}
+use Rattle.std.specs.Prelude.{◌≡◌, ◌⊎◌, ℕ, ◌<◌, ◌-◌, ◌^◌, Bool, ◌||◌, List, [], Option, None, length, IsTrue, IsFalse}
 use Rattle.volume_layout.specs.declared.layout.Layout.{Layout}
 use Rattle.volume_layout.specs.Layout.{IsPlanned}
 use Rattle.run_table.specs.Space.{contains}

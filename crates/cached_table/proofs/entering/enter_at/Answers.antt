@@ -7,7 +7,7 @@ use Rattle.version_table.specs.declared.oldest.Leaving.{Leaving}
 use Rattle.version_table.specs.declared.planning.Plan.{Plan}
 use Rattle.version_table.specs.Plan.{IsPlanReady, keys_left, planned_entry, with_planned}
 use Rattle.version_table.specs.Table.{OfTable}
-use Rattle.cached_table.specs.Entering.{EntersPlanned, HasNoNumber, LosesUntaken, RefusesAt, RefusesPlanned}
+use Rattle.cached_table.specs.Entering.{EntersPlanned, HasNoNumber, LosesUntaken, RefusesAt, RefusesPlanned, up_to}
 use Rattle.cached_table.proofs.EnteringLaws.{changes_stay, is_usable, made_behind, outer_planned, plan_refuses, plan_shows, refused_behind}
 use Rattle.cached_table.proofs.HighestLaws.{holds_now}
 use Rattle.cached_table.proofs.entering.enter_at.Goals as goal
@@ -31,7 +31,7 @@ returns-in-Err-clause-refused g c =
     let a = c.args.t.now in
     let now = c.plan_version.new.t in
     let name = c.args.name.now in
-    let map = c.args.map.now in
+    let map = up_to c.args.l.now.sectors c.args.map.now in
     let w = c.args.shadow.now in
     let cause = c.in-Err.ensures.failed.cause in
     subst (RefusesAt P map w name (HasNoNumber name) c.args.home_a a now) (sym c.plan_refusal.ensures) (record {
@@ -93,9 +93,9 @@ returns-in-Ok-enter_planned-clause-entered g c =
     let d = c.args.draft.now in
     let plan : Plan = record { key = c.in-Ok.plan.key; keep = c.in-Ok.plan.keep; gone = c.in-Ok.plan.gone } in
     let edit = with_planned plan (planned_entry plan d.serial d.length d.runs) in
-    let made = subst (λ (gone : List Leaving). EntersPlanned P c.args.map.now c.args.shadow.now gone edit now new) c.as_slice.ensures.value c.in-Ok-enter_planned.ensures.entered in
+    let made = subst (λ (gone : List Leaving). EntersPlanned P (up_to c.args.l.now.sectors c.args.map.now) c.args.shadow.now gone edit now new) c.as_slice.ensures.value c.in-Ok-enter_planned.ensures.entered in
     let trust = c.in-Ok-enter_planned.ensures.calls.trust in
-    record { name_is = c.in-Ok.ensures.formed.named; planned = λ t. c.in-Ok.ensures.planned (trust t); made = made_behind P c.args.map.now c.args.shadow.now plan.gone.items edit a now new c.in-Ok.ensures.walks trust made }
+    record { name_is = c.in-Ok.ensures.formed.named; planned = λ t. c.in-Ok.ensures.planned (trust t); made = made_behind P (up_to c.args.l.now.sectors c.args.map.now) c.args.shadow.now plan.gone.items edit a now new c.in-Ok.ensures.walks trust made }
 
 pub returns-in-Err-enter_planned-clause-refused : goal.returns-in-Err-enter_planned-clause-refused
 returns-in-Err-enter_planned-clause-refused g c =
@@ -104,7 +104,7 @@ returns-in-Err-enter_planned-clause-refused g c =
     let now = c.plan_version.new.t in
     let new = c.enter_planned.new.t in
     let name = c.args.name.now in
-    let map = c.args.map.now in
+    let map = up_to c.args.l.now.sectors c.args.map.now in
     let w = c.args.shadow.now in
     let plan : Plan = record { key = c.in-Ok.plan.key; keep = c.in-Ok.plan.keep; gone = c.in-Ok.plan.gone } in
     let e = c.in-Ok.ensures in

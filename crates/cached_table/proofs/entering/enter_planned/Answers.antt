@@ -8,7 +8,7 @@ use Rattle.name_page.proofs.LookLaws.{reaches_still, reaches_walks, walks_edits}
 use Rattle.run_table.specs.declared.run.Run.{Run}
 use Rattle.version_table.specs.Plan.{planned_entry, with_planned}
 use Rattle.version_table.specs.Table.{MakesTable}
-use Rattle.cached_table.specs.Entering.{AreInTurn, RefusesPlanned}
+use Rattle.cached_table.specs.Entering.{AreInTurn, RefusesPlanned, up_to}
 use Rattle.cached_table.proofs.EnteringLaws.{enter_refuses, enter_shows, gone_refuse, gone_shows, outer_entered, outer_untaken, spare_enough}
 use Rattle.cached_table.proofs.entering.enter_planned.Goals as goal
 
@@ -16,14 +16,14 @@ pub returns-in-Some-clause-calls : goal.returns-in-Some-clause-calls
 returns-in-Some-clause-calls g c =
     let P = g.T.Pages in
     let a = c.args.t.now in
-    subst (λ (o : Option Refusal). OnlyEdits P o a a) (sym (outer_untaken c.args.home_a c.args.map.now c.args.shadow.now c.args.freed.now c.in-Some.refusal c.in-Some.ensures.told))
+    subst (λ (o : Option Refusal). OnlyEdits P o a a) (sym (outer_untaken c.args.home_a (up_to c.args.l.now.sectors c.args.map.now) c.args.shadow.now c.args.freed.now c.in-Some.refusal c.in-Some.ensures.told))
     (walks_edits P a a (reaches_walks P a a (reaches_still P a (g.met.T.Pages.still a))))
 
 pub returns-in-Some-clause-refused : goal.returns-in-Some-clause-refused
 returns-in-Some-clause-refused g c =
     let P = g.T.Pages in
     let a = c.args.t.now in
-    let map = c.args.map.now in
+    let map = up_to c.args.l.now.sectors c.args.map.now in
     let w = c.args.shadow.now in
     let gone = c.args.freed.now in
     record {
@@ -42,7 +42,7 @@ returns-in-Err-clause-refused g c =
     let P = g.T.Pages in
     let a = c.args.t.now in
     let new = c.enter.new.t in
-    let map = c.args.map.now in
+    let map = up_to c.args.l.now.sectors c.args.map.now in
     let w = c.args.shadow.now in
     let gone = c.args.freed.now in
     let e = c.in-Err.ensures in

@@ -6,6 +6,7 @@ use Rattle.name_page.specs.Pages.{spare_count}
 use Rattle.name_page.proofs.LookLaws.{pages_then, walks_pages}
 use Rattle.version_table.specs.declared.planning.Plan.{Plan}
 use Rattle.version_table.specs.Loading.{IsLoadPlan}
+use Rattle.cached_table.specs.Entering.{up_to}
 use Rattle.cached_table.specs.Loading.{RefusesLoad}
 use Rattle.cached_table.proofs.EnteringLaws.{outer_planned, plan_refuses, plan_shows}
 use Rattle.cached_table.proofs.LoadingLaws.{absent_by, false_told, loads_behind, refused_load}
@@ -28,7 +29,7 @@ returns-in-Err-clause-refused g c =
     let a = c.args.t.now in
     let now = c.plan_load.new.t in
     let key = c.args.key.now in
-    let map = c.args.map.now in
+    let map = up_to c.args.l.now.sectors c.args.map.now in
     let w = c.args.shadow.now in
     let cause = c.in-Err.ensures.failed.cause in
     subst (RefusesLoad P key map w c.args.home_a a now) (sym c.plan_refusal.ensures) (record {
@@ -54,12 +55,12 @@ returns-in-Ok-clause-loaded g c = λ is.
     let plan : Plan = record { key = c.in-Ok-Some.plan.key; keep = c.in-Ok-Some.plan.keep; gone = c.in-Ok-Some.plan.gone } in
     let e = c.in-Ok-Some.ensures in
     let planned = MatchOption-at_some _ (IsLoadPlan g.T.Pages c.args.key.now c.args.keep c.args.t.now c.plan_load.new.t) plan c.in-Ok-Some.field-0-is e.planned in
-    loads_behind g.T.Pages c.args.map.now c.args.shadow.now c.args.key.now c.args.keep c.args.draft.now c.args.t.now c.plan_load.new.t c.enter_planned.new.t plan planned e.walks c.in-Ok.ensures.calls.trust c.in-Ok.ensures.entered
+    loads_behind g.T.Pages (up_to c.args.l.now.sectors c.args.map.now) c.args.shadow.now c.args.key.now c.args.keep c.args.draft.now c.args.t.now c.plan_load.new.t c.enter_planned.new.t plan planned e.walks c.in-Ok.ensures.calls.trust c.in-Ok.ensures.entered
 
 pub returns-in-Err-enter_planned-clause-refused : goal.returns-in-Err-enter_planned-clause-refused
 returns-in-Err-enter_planned-clause-refused g c =
     let plan : Plan = record { key = c.in-Ok-Some.plan.key; keep = c.in-Ok-Some.plan.keep; gone = c.in-Ok-Some.plan.gone } in
     let e = c.in-Ok-Some.ensures in
     let planned = MatchOption-at_some _ (IsLoadPlan g.T.Pages c.args.key.now c.args.keep c.args.t.now c.plan_load.new.t) plan c.in-Ok-Some.field-0-is e.planned in
-    refused_load g.T.Pages g.met.T.Pages.then c.args.map.now c.args.shadow.now c.args.key.now c.args.home_a c.args.t.now c.plan_load.new.t c.enter_planned.new.t c.in-Err-enter_planned.refusal e.walks
+    refused_load g.T.Pages g.met.T.Pages.then (up_to c.args.l.now.sectors c.args.map.now) c.args.shadow.now c.args.key.now c.args.home_a c.args.t.now c.plan_load.new.t c.enter_planned.new.t c.in-Err-enter_planned.refusal e.walks
     (absent_by planned c.args.draft.now) c.in-Err-enter_planned.ensures.refused

@@ -8,7 +8,7 @@ use Rattle.version_table.specs.declared.oldest.Leaving.{Leaving}
 use Rattle.version_table.specs.declared.planning.Plan.{Plan}
 use Rattle.version_table.specs.Plan.{planned_entry, with_planned}
 use Rattle.version_table.specs.Table.{OfTable}
-use Rattle.cached_table.specs.Entering.{EntersPlanned, LosesUntaken, RefusesAt, RefusesPlanned}
+use Rattle.cached_table.specs.Entering.{EntersPlanned, LosesUntaken, RefusesAt, RefusesPlanned, up_to}
 use Rattle.cached_table.specs.Moving.{LacksNumber}
 use Rattle.cached_table.proofs.EnteringLaws.{made_behind, outer_planned, plan_refuses, plan_shows, refused_behind}
 use Rattle.cached_table.proofs.MovingLaws.{first_of, moved_lost, moved_usable, others_of}
@@ -23,7 +23,7 @@ returns-in-Err-clause-refused g c =
     let now = c.plan_move.new.t in
     let key = c.args.key.now in
     let name = c.args.name.now in
-    let map = c.args.map.now in
+    let map = up_to c.args.l.now.sectors c.args.map.now in
     let w = c.args.shadow.now in
     let cause = c.in-Err.ensures.failed.cause in
     subst (RefusesAt P map w name (LacksNumber key name) c.args.home_a a now) (sym c.plan_refusal.ensures) (record {
@@ -61,7 +61,7 @@ returns-in-Ok-enter_planned-clause-moved g c =
     let a = c.args.t.now in
     let now = c.plan_move.new.t in
     let new = c.enter_planned.new.t in
-    let map = c.args.map.now in
+    let map = up_to c.args.l.now.sectors c.args.map.now in
     let w = c.args.shadow.now in
     let plan : Plan = record { key = c.in-Ok.plan.key; keep = c.in-Ok.plan.keep; gone = c.in-Ok.plan.gone } in
     let formed = c.in-Ok.ensures.formed in
@@ -88,7 +88,7 @@ returns-in-Err-enter_planned-clause-refused g c =
     let new = c.enter_planned.new.t in
     let key = c.args.key.now in
     let name = c.args.name.now in
-    let map = c.args.map.now in
+    let map = up_to c.args.l.now.sectors c.args.map.now in
     let w = c.args.shadow.now in
     let plan : Plan = record { key = c.in-Ok.plan.key; keep = c.in-Ok.plan.keep; gone = c.in-Ok.plan.gone } in
     let e = c.in-Ok.ensures in

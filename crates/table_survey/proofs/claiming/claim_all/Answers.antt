@@ -1,4 +1,4 @@
-use Rattle.std.proofs.Common.{◌≡◌, ◌∙◌, ◌<◌, ◌≤◌, ℕ, List, Option, Some, length, true, refl, sym, ap, subst, arith}
+use Rattle.std.proofs.Common.{◌≡◌, ◌∙◌, ◌<◌, ◌≤◌, ℕ, List, Option, Some, length, true, sym, ap, subst, arith}
 use Rattle.std.specs.Option.{option_copied}
 use Rattle.std.proofs.lemmas.Result.{err_from_is_err_and}
 use Rattle.fsd_bytes.specs.declared.key.Key.{Key}
@@ -14,10 +14,9 @@ use Rattle.name_btree.specs.declared.fault.TreeFault.{TreeFault}
 use Rattle.name_btree.specs.Fault.{outer_of, IsAmong, IsOnWay}
 use Rattle.name_btree.specs.Lookup.{found_entry, IsInPlace, TellsLater}
 use Rattle.name_btree.proofs.ways.ReachLaws.{among_since}
-use Rattle.run_table.specs.Space.{contains}
-use Rattle.sector_set.specs.Area.{Area, IsOwn, area}
-use Rattle.table_survey.specs.Claims.{FailsClaims}
-use Rattle.table_survey.proofs.ClaimLaws.{without_own, entry_fewer}
+use Rattle.sector_set.specs.Area.{Area, IsOwn}
+use Rattle.table_survey.specs.Claims.{FailsClaims, IsLeftOf}
+use Rattle.table_survey.proofs.ClaimLaws.{without_own, entry_fewer, left_all, left_less}
 use Rattle.table_survey.proofs.PassLaws.{IsPassed, passed_none, passed_more, passed_all}
 use Rattle.table_survey.proofs.FaultLaws.{claim_breaks, look_up_fails}
 use Rattle.table_survey.proofs.StepLaws.{found_then}
@@ -30,8 +29,7 @@ loop-found-init g c =
     record {
       calls = reaches_walks G t t (reaches_still G t (g.met.T.Pages.still t));
       own = c.requires.own;
-      from = refl;
-      to = refl;
+      left = left_all c.args.map.now c.requires.own;
       pass = λ trusted height tree. passed_none (table_of (G.step t).images height) c.args.map.now c.requires.own (entries_ascend _ (G.step t).images top tree.subtree);
     }
 
@@ -88,10 +86,8 @@ returns-in_default-clause-claimed g c = λ trusted height tree.
     let is = found_then G old c.rest.new.self new c.loop-found.after _ c.as_ref.ensures.value c.in_ok-found.field-0 all look.calls look.found trusted height tree in
     passed_all (table_of (G.step old).images height) c.args.map.now c.loop-found.after c.loop-found.map (c.loop-found.invariant.pass (so.trust trusted) height tree) (sym is ∙ ap found_entry c.in_default.is)
 
-pub returns-in_default-clause-area : goal.returns-in_default-clause-area
-returns-in_default-clause-area g c =
-    let now = c.loop-found.map in
-    c.loop-found.invariant.own ∙ ap (λ (n : ℕ). area n now.to (contains now.sectors)) c.loop-found.invariant.from ∙ ap (λ (n : ℕ). area c.args.map.now.from n (contains now.sectors)) c.loop-found.invariant.to
+pub returns-in_default-clause-left : goal.returns-in_default-clause-left
+returns-in_default-clause-left g c = c.loop-found.invariant.left
 
 -- ---- the sectors are not all there
 
@@ -142,12 +138,12 @@ returns-in_err-claim-clause-fault g c =
     let way : IsOnWay s.images f.page = (place.0, place.1, place.2) in
     let later : is_after after f.entry.key ≡ true = subst (λ (a : Option Key). is_after a f.entry.key ≡ true) c.as_ref.ensures.value met.suits.later in
     let p = err_from_is_err_and c.from_residual-in_err-claim.result c.from_residual-in_err-claim.ensures.1 in
-    rw (p.1, p.2) (subst (FailsClaims G start new) (sym c.in_err-claim.ensures.fault.0) (λ trusted l whole height tree.
+    rw (p.1, p.2) (subst (FailsClaims G start new) (sym c.in_err-claim.ensures.fault.0) (λ trusted l planned whole height tree.
     let same = all.stays trusted in
     let before = c.loop-found.invariant.pass (so.trust trusted) height (subst (λ (pages : List (List ℕ)). IsTree pages height) same tree) in
     let here = subst (λ (pages : List (List ℕ)). IsPassed (table_of pages height) start after now) (sym same) before in
     let pass = subst (λ (m : Area). IsPassed (table_of s.images height) m after now) whole here in
-    claim_breaks l s.images height tree after now pass f there.entries way there.leaf there.there later c.in_err-claim.ensures.fault.1))
+    claim_breaks l planned s.images height tree after now pass f there.entries way there.leaf there.there later c.in_err-claim.ensures.fault.1))
 
 -- ---- one more
 
@@ -172,8 +168,7 @@ loop-found-preserved g c =
     record {
       calls = all;
       own = subst (λ (m : Area). IsOwn m) (sym taken) (without_own now e.runs);
-      from = ap (λ (m : Area). m.from) taken ∙ c.loop-found.invariant.from;
-      to = ap (λ (m : Area). m.to) taken ∙ c.loop-found.invariant.to;
+      left = subst (IsLeftOf c.args.map.now) (sym taken) (left_less c.args.map.now now e.runs c.loop-found.invariant.left);
       pass = λ trusted height tree.
           let table = table_of (G.step old).images height in
           let is = found_then G old c.rest.new.self new c.loop-found.after _ c.as_ref.ensures.value c.in_ok-found.field-0 all look.calls look.found trusted height tree in

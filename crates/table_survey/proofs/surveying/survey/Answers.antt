@@ -1,4 +1,4 @@
-use Rattle.std.proofs.Common.{◌≡◌, ◌∙◌, inl, ℕ, ◌<◌, List, sym, ap, subst, arith}
+use Rattle.std.proofs.Common.{◌≡◌, ◌∙◌, inl, ℕ, ◌<◌, List, sym, subst, arith}
 use Rattle.std.proofs.lemmas.Result.{err_from_is_err_and}
 use Rattle.fsd_table.specs.Breaks.{Breaks}
 use Rattle.fsd_table.specs.Table.{BreaksTable}
@@ -6,11 +6,11 @@ use Rattle.fsd_table.specs.Tree.{IsTree}
 use Rattle.name_page.proofs.LookLaws.{walks_then}
 use Rattle.name_btree.specs.Fault.{BarsTable, IsAmong}
 use Rattle.name_btree.proofs.steps.CauseLaws.{cause_map}
-use Rattle.table_survey.specs.Claims.{whole_area}
+use Rattle.table_survey.specs.Claims.{IsLeftOf, whole_area}
 use Rattle.volume_layout.specs.declared.layout.Layout.{Layout}
-use Rattle.run_table.specs.Space.{contains}
-use Rattle.sector_set.specs.Area.{Area, IsOwn, area}
-use Rattle.table_survey.proofs.ClaimLaws.{whole_own}
+use Rattle.volume_layout.specs.Layout.{IsPlanned}
+use Rattle.sector_set.specs.Area.{Area, IsOwn}
+use Rattle.table_survey.proofs.ClaimLaws.{left_data, whole_own}
 use Rattle.table_survey.proofs.SurveyLaws.{claims_then, surveyed, unbroken}
 use Rattle.table_survey.proofs.surveying.survey.Goals as goal
 
@@ -51,12 +51,12 @@ returns-in_err-claim_all g c =
       calls = walks_then G g.met.T.Pages.then c.args.t.now c.walk.new.t new first.calls second;
       among = subst (λ (pages : ℕ). 0 < pages → IsAmong pages why) first.calls.count failed.among;
       surveys = tt;
-      fault = cause_map s (λ page. G.trusted new → (k : Layout) → c.args.map.now ≡ whole_area k → (height : ℕ) → IsTree s.images height → Breaks k s.images page) (λ page. G.trusted new → Breaks l s.images page)
+      fault = cause_map s (λ page. G.trusted new → (k : Layout) → IsPlanned k → c.args.map.now ≡ whole_area k → (height : ℕ) → IsTree s.images height → Breaks k s.images page) (λ page. G.trusted new → Breaks l s.images page)
           (λ page. G.trusted new → BarsTable s page) (λ page. G.trusted new → BarsTable s page)
           (λ page b trusted.
           let t = second.trust trusted in
           let counted = first.counted t in
-          b trusted l c.requires.map counted.height (subst (λ (pages : List (List ℕ)). IsTree pages counted.height) (sym (second.stays trusted ∙ first.calls.stays t)) counted.tree))
+          b trusted l c.requires.planned c.requires.map counted.height (subst (λ (pages : List (List ℕ)). IsTree pages counted.height) (sym (second.stays trusted ∙ first.calls.stays t)) counted.tree))
           (λ page b. b) why failed.fault;
     })
 
@@ -75,7 +75,7 @@ returns g c =
       surveys = record {
         told = λ trusted. surveyed l s c.walk.new.reached free c.in_ok-versions.versions (first.counted (second.calls.trust trusted)) (claims trusted) c.marked_count-pages.result (c.walk.auto.reached ∙ c.requires.whole) c.marked_count-pages.ensures;
         unbroken = λ trusted. unbroken l s c.walk.new.reached free c.in_ok-versions.versions (first.counted (second.calls.trust trusted)) (claims trusted);
-        area_is = second.area ∙ ap (λ (m : Area). area m.from m.to (contains free.sectors)) c.requires.map;
+        area_is = left_data l free (subst (λ (m : Area). IsLeftOf m free) c.requires.map second.left);
         counted = c.marked_count-pages.ensures;
       };
       fault = tt;

@@ -5,7 +5,7 @@ use Rattle.version_table.specs.Plan.{IsPlan, planned_entry, with_planned}
 use Rattle.fsd_bytes.specs.Keys.{max_u32}
 use Rattle.fsd_formats.specs.declared.entry.Entry.{Entry}
 use Rattle.version_table.specs.Versions.{next_key}
-use Rattle.cached_table.specs.Entering.{HasNoNumber, LosesUntaken}
+use Rattle.cached_table.specs.Entering.{HasNoNumber, LosesUntaken, up_to}
 use Rattle.cached_table.proofs.LeftLaws.{left_as}
 use Rattle.cached_table.proofs.EditLaws.{changes_left, edits_left, made_so, of_so, refuses_left, stays_left}
 use Rattle.cached_table.proofs.EnteringLaws.{entered_each, enters_in, refused_each, refused_walks, refuses_in}
@@ -38,7 +38,7 @@ returns-clause-entered g c =
 pub returns-clause-refused : goal.returns-clause-refused
 returns-clause-refused g c =
     let r = c.enter_at-done.result in
-    let map = c.args.map.now in
+    let map = up_to c.args.l.now.sectors c.args.map.now in
     let w = c.args.shadow.now in
     let e = c.enter_at-done.ensures.refused in
     let walks = refused_walks _ map w c.args.name.now (HasNoNumber c.args.name.now) c.args.home_a c.new-table.result c.enter_at-done.new.t r e in

@@ -4,6 +4,7 @@ use Rattle.std.proofs.lemmas.Result.{on_err_weaker}
 use Rattle.fsd_files.specs.Answers.{entry_of, entry_put}
 use Rattle.fsd_formats.specs.declared.entry.Entry.{Entry}
 use Rattle.name_page.specs.Pages.{spare_count, outer_in}
+use Rattle.cached_table.specs.Entering.{up_to}
 use Rattle.cached_table.specs.Loading.{entry_drafted}
 use Rattle.cached_table.proofs.HighestLaws.{none_walked}
 use Rattle.cached_table.proofs.LeftLaws.{left_as}
@@ -53,7 +54,7 @@ returns-clause-there g c = λ is.
 pub returns-clause-refused : goal.returns-clause-refused
 returns-clause-refused g c =
     let r = c.load_at-done.result in
-    let map = c.args.map.now in
+    let map = up_to c.args.l.now.sectors c.args.map.now in
     let w = c.args.shadow.now in
     let key = c.args.key.now in
     let e = c.load_at-done.ensures.refused in

@@ -5,7 +5,7 @@ use Rattle.fsd_formats.specs.declared.entry.Entry.{Entry}
 use Rattle.name_page.specs.Pages.{spare_count, outer_in}
 use Rattle.version_table.specs.Moving.{IsMovePlan}
 use Rattle.version_table.specs.Versions.{next_key}
-use Rattle.cached_table.specs.Entering.{LosesUntaken}
+use Rattle.cached_table.specs.Entering.{LosesUntaken, up_to}
 use Rattle.cached_table.specs.Moving.{LacksNumber}
 use Rattle.cached_table.proofs.LeftLaws.{left_as}
 use Rattle.cached_table.proofs.EditLaws.{changes_left, edits_left, made, of_so, refuses_left, stays_left}
@@ -38,7 +38,7 @@ returns-clause-moved g c =
 pub returns-clause-refused : goal.returns-clause-refused
 returns-clause-refused g c =
     let r = c.move_at-done.result in
-    let map = c.args.map.now in
+    let map = up_to c.args.l.now.sectors c.args.map.now in
     let w = c.args.shadow.now in
     let key = c.args.key.now in
     let name = c.args.name.now in

@@ -140,5 +140,5 @@ returns-in-Err-clause-state g c =
     let place : IsTrue (is_root c.in-Err.failed.place) = ⊎_elim (λ e. subst (λ (p : ℕ). IsTrue (is_root p)) (sym e) refl) (λ e. subst (λ (p : ℕ). IsTrue (is_root p)) (sym e) refl) c.in-Err.ensures.place in
     inr (
       ap (option_map Why.Down) (up_by c.args.self.now.down (sym c.in_ok-is_up.ensures)),
-      inr (ap (layout_is (state c.args.self.now)) two, inl (place, ap (λ (x : VolumeValue). record (state x) { down = Some at }) c.self.view_is)),
+      inr (ap (layout_is (state c.args.self.now)) two, (place, ap (λ (x : VolumeValue). record (state x) { down = Some at }) c.self.view_is)),
     )
