@@ -1,20 +1,23 @@
 -- A name table that is surveyed as it stands at home.
-use Rattle.std.proofs.Common.{true, cond, suc, ◌≡◌, ◌⊎◌, inl, inr, ℕ, ◌+◌, ◌^◌, ◌<◌, ◌≤◌, Bool, false, not, ◌||◌, List, [], ◌∷◌, length, map, replicate, get_or, Option, Some, None, Ok, refl, sym, ap, subst, ◌∙◌, arith}
-use Rattle.std.specs.Prelude.{count_by, IsSome, ◌++◌, take, option_map, slice_index_or, ◌==◌}
-use Rattle.std.specs.List.{list_any}
+use Rattle.std.proofs.Common.{true, cond, suc, ◌≡◌, ◌⊎◌, inl, inr, ℕ, ◌+◌, ◌-◌, ◌^◌, ◌<◌, ◌≤◌, Bool, false, not, ◌&&◌, ◌||◌, List, [], ◌∷◌, length, map, replicate, get_or, Option, Some, None, refl, sym, ap, subst, ◌∙◌, arith}
+use Rattle.std.specs.Prelude.{count_by, IsSome, ◌++◌, take, option_map, slice_index_or, ◌==◌, nat_le, nat_lt}
+use Rattle.std.specs.List.{list_any, range_with_len}
 use Rattle.std.proofs.Math.Seq.{take-append_seam}
-use Rattle.std.proofs.lemmas.Bool.{cases_lt, true≢false}
+use Rattle.std.proofs.lemmas.Bool.{cases_lt, le-leb, le-ltb, lt-leb, lt-ltb, true≢false}
 use Rattle.std.proofs.lemmas.List.Sums.{sum_by-cons}
-use Rattle.std.proofs.lemmas.List.{get_or-replicate, length-replicate, get_or_past}
+use Rattle.std.proofs.lemmas.List.{append-nil, get_or-replicate, length-replicate, get_or_past}
 use Rattle.std.proofs.lemmas.Option.{get_or_from_slice_get, slice_get-get_or}
 use Rattle.std.proofs.Math.Nat.{mod-eq_of_lt}
 use Rattle.fsd_bytes.specs.declared.refusal.Refusal.{Refusal}
 use Rattle.fsd_bytes.specs.declared.refusal.Refusal.TheVariants as Why
 use Rattle.volume_layout.specs.declared.layout.Layout.{Layout}
-use Rattle.volume_layout.specs.Layout.{home_a, IsPlanned}
+use Rattle.volume_layout.specs.Layout.{data_start, home_a, most_of, IsPlanned}
 use Rattle.volume_layout.proofs.RootLaws.{planned_bounds}
+use Rattle.run_table.specs.declared.run.Run.{Run}
+use Rattle.run_table.specs.RunTable.{run_of, sectors_of}
 use Rattle.run_table.specs.Space.{contains}
-use Rattle.sector_set.specs.Area.{Area}
+use Rattle.sector_set.specs.Area.{Area, area}
+use Rattle.sector_set.proofs.FreeLaws.{contains_range, where_same}
 use Rattle.sector_disk.specs.declared.machine.Machine.{Ghosts as MachineGhosts}
 use Rattle.sector_disk.specs.Calls.{OnlyReads}
 use Rattle.sector_disk.specs.declared.machine.LoadFault.TheVariants as load
@@ -38,6 +41,7 @@ use Rattle.table_pages.specs.Bringing.{IsTrusted, given_by, home_in}
 use Rattle.table_pages.specs.ImageLaws.{image_at, image_count}
 use Rattle.table_pages.specs.Reads.{LosesFor, outer_device}
 use Rattle.table_pages.specs.Table.{fresh_step}
+use Rattle.table_survey.specs.Claims.{whole_area}
 use Rattle.table_survey.specs.Survey.{IsSurveyed, visited}
 use Rattle.table_survey.specs.declared.surveying.TableCounts.{TableCounts}
 use Rattle.cached_table.specs.HomeLaws.{home_stays, past_homes}
@@ -46,6 +50,33 @@ use Rattle.cached_table.specs.Looking.{BarsPages, images_by}
 use Rattle.cached_table.specs.Opening.{IsNoTable, IsOpenFault, IsTableOf, home_pages, frames, is_reached}
 use Rattle.cached_table.specs.Surveying.{SurveyFails, SurveyFaultIn, SurveysOnly, mount_fault_for, mount_fault_in}
 use Rattle.cached_table.specs.contracts.homes.HomesPageSource.TheImpl as at_home
+
+-- ---- the data area in an interval with room for more
+
+-- what no run has where one runs from the volume's end to the last sector that it may grow to
+pub room_is : (l : Layout) (from most : ℕ) (behind : Run) → from ≡ data_start l → most ≡ most_of l → behind ≡ run_of l.sectors (most - l.sectors)
+    → area from most (λ s. not (contains (sectors_of (behind ∷ [])) s)) ≡ whole_area l
+room_is l from most behind first last is =
+    ap (λ (r : Run). area from most (λ s. not (contains (sectors_of (r ∷ [])) s))) is
+    ∙ ap (λ (xs : List ℕ). record { from = from; to = most; sectors = xs })
+    (where_same (λ s. not (contains (sectors_of (run_of l.sectors (most - l.sectors) ∷ [])) s)) (λ s. nat_lt s l.sectors && true) from most each)
+    ∙ ap (λ (n : ℕ). area n most (λ s. nat_lt s l.sectors && true)) first
+    ∙ ap (λ (n : ℕ). area (data_start l) n (λ s. nat_lt s l.sectors && true)) last
+  where
+    outside : (s : ℕ) → s < most → not (nat_le l.sectors s && nat_lt s (l.sectors + (most - l.sectors))) ≡ (nat_lt s l.sectors && true)
+    outside s high = elim (cases_lt s l.sectors) [
+      | inl lt ↦ ap (λ (b : Bool). not (b && nat_lt s (l.sectors + (most - l.sectors)))) (lt-leb l.sectors s lt) ∙ ap (λ (b : Bool). b && true) (sym (lt-ltb s l.sectors lt))
+      | inr ge ↦
+          ap (λ (b : Bool). not (b && nat_lt s (l.sectors + (most - l.sectors)))) (le-leb l.sectors s ge)
+          ∙ ap not (lt-ltb s (l.sectors + (most - l.sectors)) (omega (arith, high, ge)))
+          ∙ ap (λ (b : Bool). b && true) (sym (le-ltb s l.sectors ge))
+    ]
+
+    each : (s : ℕ) → from ≤ s → s < most → not (contains (sectors_of (run_of l.sectors (most - l.sectors) ∷ [])) s) ≡ (nat_lt s l.sectors && true)
+    each s low high =
+        ap (λ (xs : List ℕ). not (contains xs s)) (append-nil (range_with_len l.sectors (most - l.sectors)))
+        ∙ ap not (contains_range l.sectors (most - l.sectors) s)
+        ∙ outside s high
 
 -- ---- the fault of a mount that a refusal is
 

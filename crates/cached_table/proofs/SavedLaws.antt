@@ -8,8 +8,6 @@ use Rattle.volume_layout.specs.declared.layout.Layout.{Layout}
 use Rattle.volume_layout.specs.Layout.{data_start, home_a}
 use Rattle.run_table.specs.Space.{contains}
 use Rattle.run_table.proofs.SectorLaws.{each_in}
-use Rattle.sector_set.specs.Area.{area}
-use Rattle.sector_set.proofs.FreeLaws.{where_same}
 use Rattle.fsd_formats.specs.SavedMap.{MapCounts, is_set_in}
 use Rattle.fsd_table.specs.Breaks.{Breaks}
 use Rattle.fsd_table.specs.Table.{Telling, top, visits}
@@ -21,6 +19,8 @@ use Rattle.fsd_files.specs.Volume.{is_in, plans_of}
 use Rattle.fsd_forest.proofs.LowLaws.{all_within}
 use Rattle.fsd_sound.specs.Saved.{AreSaved, is_reached}
 use Rattle.page_cache.specs.Cache.{CacheValue, cached_bytes, no_pages}
+use Rattle.table_survey.specs.Claims.{data_area}
+use Rattle.table_survey.proofs.DataLaws.{data_same}
 use Rattle.table_survey.proofs.VisitLaws.{marks_count, tree_pages}
 use Rattle.cached_table.specs.declared.opening.Opened.{Opened}
 use Rattle.cached_table.specs.Opening.{IsTableOf, frames}
@@ -67,7 +67,7 @@ module _ (l : Layout) (counts : MapCounts) (sectors pages : List (List ℕ)) (sa
       omega (arith, all, many, long, counted, reached_many)
 
   -- what is opened with them is what a survey opens
-  pub saved_table : (o : Opened) → Apart l (plans_of saved.telling.entries) → ((page : ℕ) → Breaks l pages page → ⊥) → o.cache ≡ no_pages frames → o.versions ≡ counts.versions → o.map ≡ area (data_start l) l.sectors (is_set_in sectors)
+  pub saved_table : (o : Opened) → Apart l (plans_of saved.telling.entries) → ((page : ℕ) → Breaks l pages page → ⊥) → o.cache ≡ no_pages frames → o.versions ≡ counts.versions → o.map ≡ data_area l (is_set_in sectors)
       → length o.free_pages ≡ l.pages → ((page : ℕ) → page < l.pages → slice_index_or o.free_pages page false ≡ is_set_in sectors (home_a l page)) → IsTableOf l pages o
   saved_table o apart whole fresh versions free long flags = record {
     telling = saved.telling;
@@ -75,7 +75,7 @@ module _ (l : Layout) (counts : MapCounts) (sectors pages : List (List ℕ)) (sa
     whole = whole;
     versions = saved.versions ∙ sym versions;
     apart = apart;
-    map = free ∙ ap (λ (xs : List ℕ). record { from = data_start l; to = l.sectors; sectors = xs }) (where_same (is_set_in sectors) (λ s. not (is_in (plans_of saved.telling.entries) s)) (data_start l) l.sectors (λ s low high. saved.free s (and_from _ _ (le-leb (data_start l) s low) (lt-ltb s l.sectors high))));
+    map = free ∙ data_same l (is_set_in sectors) (λ s. not (is_in (plans_of saved.telling.entries) s)) (λ s low high. saved.free s (and_from _ _ (le-leb (data_start l) s low) (lt-ltb s l.sectors high)));
     free_pages = λ page lt. flags page lt ∙ saved.spare page lt;
     spare = spare_pages o.free_pages long flags;
     inside = λ page bytes there. absurd (none page bytes there);

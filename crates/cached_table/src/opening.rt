@@ -128,7 +128,7 @@ fn survey_room<M: Machine>(m: &mut M, l: &Layout, room: Room) -> Result<Opened, 
 }
 
 /// Surveys the name table of a layout as it stands at home.
-/// Needs room for 256 pages, a bit for each sector and two bytes for each page.
+/// Needs room for 256 pages, a bit for each sector that the volume may grow to, and two bytes for each page.
 pub fn open_table<M: Machine>(alloc: Global, m: &mut M, l: &Layout) -> Result<Opened, MountFault>
     requires planned { IsPlanned l.now }
     requires sectors { l.now.sectors ≤ (M.report m.old).sectors }

@@ -1,5 +1,6 @@
 //! The survey of a table over a cache.
 ghost use Rattle.std.specs.Prelude.{◌≡◌, ◌<◌, IfOk, IfErr, [], length};
+ghost use Rattle.volume_layout.specs.Layout.{IsPlanned};
 ghost use Rattle.name_btree.specs.Fault.{outer_told};
 ghost use Rattle.name_btree.specs.Walk.{AreMarksOf};
 ghost use Rattle.table_pages.specs.Kept.{IsReady};
@@ -34,6 +35,7 @@ pub(crate) fn survey_in<M: Machine, S: PageSource>(
     requires whole { length marks.old ≡ length free.old }
     requires some { 0 < length free.old }
     requires clear { AreMarksOf [] marks.old }
+    requires planned { IsPlanned l.now }
     requires map { map.old ≡ whole_area l.now }
     ensures only { SurveysOnly M.Machine S.PageSource source.now (outer_told result) m.old m.new cache.old cache.new (length free.old) }
     ensures free { free.new ≡ free.old }
