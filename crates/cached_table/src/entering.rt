@@ -23,7 +23,7 @@ use fsd_formats::Entry;
 use name_btree::TreeFault;
 use name_page::Pages;
 use page_cache::PageSource;
-use run_table::Runs;
+use run_table::{Run, Runs};
 use sector_disk::Machine;
 use sector_set::overlap;
 use shadow_frees::Shadow;
@@ -54,10 +54,10 @@ pub(crate) fn plan_refusal(fault: VersionFault, home_a: u32) -> Refusal
 }
 
 // Whether all sectors of runs lie below a place.
-fn lie_below(runs: &Runs, end: u32) -> bool
+fn lie_below(runs: &[Run], end: u32) -> bool
     ensures { IsTrue result ↔ ((s : ℕ) → IsTrue (contains (sectors_of runs.now) s) → s < end) }
 {
-    for run in runs.as_slice() {
+    for run in runs {
         if run.length != 0 && run.start as u64 + run.length as u64 > end as u64 {
             return false;
         }
@@ -69,7 +69,7 @@ fn lie_below(runs: &Runs, end: u32) -> bool
 fn are_out(map: &Map, l: &Layout, runs: &Runs) -> bool
     ensures { IsTrue result ↔ AreOut (up_to l.now.sectors map.now) runs.now }
 {
-    lie_below(runs, l.sectors()) && map.are_taken(runs)
+    lie_below(runs.as_slice(), l.sectors()) && map.are_taken(runs)
 }
 
 /// Whether the sectors of runs are of the data area, each named once, and neither free nor waiting, and each reader
