@@ -22,7 +22,7 @@ use Rattle.fsd_files.specs.Waiting.{is_kept_alone, is_let_go}
 use Rattle.fsd_files.proofs.WaitLaws.{open_in_area}
 use Rattle.fsd_sound.specs.Laid.{AllLaid, HasOwnLog}
 use Rattle.fsd_sound.specs.Mounted.{IsMounted, Mounted}
-use Rattle.fsd_sound.specs.Sound.{IsEither, IsSound, ShowsPages, weak_of}
+use Rattle.fsd_sound.specs.Sound.{EachBeside, IsEither, IsSound, ShowsPages, weak_of}
 use Rattle.fsd_sound.proofs.AlikeLaws.{each_same, log_same}
 use Rattle.fsd_sound.proofs.BesideLaws.{apart_covered}
 use Rattle.fsd_sound.proofs.EmptyLaws.{own_anchor}
@@ -30,7 +30,7 @@ use Rattle.fsd_sound.proofs.LaidLaws.{own_worn}
 use Rattle.fsd_sound.proofs.LogPlaces.{IsRecord, SameLog, copies_same, front_same, goes_records, in_record, same_tape, scan_goes, start_in}
 use Rattle.fsd_sound.proofs.MountedLaws.{all_data, data_behind, describes_data}
 use Rattle.fsd_sound.proofs.OpenLaws.{open_worn}
-use Rattle.fsd_sound.proofs.RootingLaws.{data_same, rooting_sound, two, two_is, two_roots, two_same, two_shows, with_roots}
+use Rattle.fsd_sound.proofs.RootingLaws.{data_same, rooting_says, rooting_sound, two, two_is, two_roots, two_same, two_shows, with_roots}
 use Rattle.fsd_sound.proofs.SavedLaws.{closes_none, stays_open}
 use Rattle.fsd_sound.proofs.SizedLaws.{all_laid_sized, scan_sized}
 use Rattle.fsd_sound.proofs.SoundLaws.{shows_still}
@@ -80,6 +80,9 @@ module _ (m : Mounted) (windows : List WeakRun) (h : List Change) (f : ℕ) (i :
   module _ (first second : ℕ) (once : first ≤ 1) (once_more : second ≤ 1) (j : Image) (worn : IsWorn (weak_of windows) (with_roots k i first second) j) where
     pub growing_sound : IsSound m.volume.layout windows h f j
     growing_sound = rooting_sound m windows h f i is k (inr sized) may_grow covers first second once once_more j worn
+
+    pub growing_says : EachBeside m.volume.layout j (λ x. x ≡ k)
+    growing_says = rooting_says m windows h f i is k (inr sized) may_grow covers first second once once_more j worn
 
   -- ---- the end
 

@@ -16,13 +16,13 @@ use Rattle.fsd_table.specs.Table.{told_in}
 use Rattle.fsd_sound.specs.Laid.{HasOwnRoots}
 use Rattle.fsd_sound.specs.Mounted.{IsMounted, Mounted, SameData}
 use Rattle.fsd_sound.specs.Saved.{IsOpen}
-use Rattle.fsd_sound.specs.Sound.{AllLieIn, IsEither, IsRootOf, IsSound, LiesIn, Says, ShowsPages, weak_of}
+use Rattle.fsd_sound.specs.Sound.{AllLieIn, EachBeside, IsEither, IsRootOf, IsSound, LiesIn, Says, ShowsPages, weak_of}
 use Rattle.fsd_sound.specs.Windows.{IsNarrow}
 use Rattle.fsd_sound.proofs.BesideLaws.{all_lie_covered, said_shows}
 use Rattle.fsd_sound.proofs.CommuteLaws.{with_other, with_same}
 use Rattle.fsd_sound.proofs.MendLaws.{beside_root_shows, rebased, rebased_other}
 use Rattle.fsd_sound.proofs.MountedLaws.{forced_sound, one_of}
-use Rattle.fsd_sound.proofs.SaidLaws.{said_other}
+use Rattle.fsd_sound.proofs.SaidLaws.{beside_other, planned_beside, said_other, says_which, says_worn}
 use Rattle.fsd_sound.proofs.SavedLaws.{ReadsLess, closes_none, stays_open, worn_reads}
 use Rattle.fsd_sound.proofs.SoundLaws.{shows_still, weak_within_hurt}
 use Rattle.fsd_sound.proofs.WindowLaws.{borne_narrow}
@@ -110,6 +110,15 @@ module _ (m : Mounted) (windows : List WeakRun) (h : List Change) (f : ℕ) (i :
     rooting_sound =
         forced_sound m windows h f i j is data_same opened
         (shows_still m.volume.layout windows narrow (is.disk ∷ []) (with_roots k i n more) j worn rooted.shows)
+
+    -- and no root says a third one
+    pub rooting_says : EachBeside m.volume.layout j (λ x. x ≡ k)
+    rooting_says x other says =
+        let roots = rooted.shows.readable.roots in
+        let c = with_roots k i n more in
+        said_other m.volume.layout (weak_of windows) c roots x other (says_worn x c j (weak_of windows) worn says)
+        ∙ sym (⊎_elim (λ same. absurd (beside_other m.volume.layout k beside same)) (λ one. one)
+        (says_which m.volume.layout (weak_of windows) c roots k (planned_beside m.volume.layout k roots.planned beside) rooted.other))
 
   -- ---- the end
 

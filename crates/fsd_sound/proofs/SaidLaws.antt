@@ -68,7 +68,7 @@ module _ (l : Layout) (weak : Sectors) (i : Image) (roots : HasRoots l weak i) w
   pub other_planned : IsPlanned roots.other
   other_planned = planned_beside l roots.other roots.planned roots.beside
 
-  says_which : (k : Layout) → IsPlanned k → IsRootOf l roots.other (root_bytes k) → (k ≡ l) ⊎ (k ≡ roots.other)
+  pub says_which : (k : Layout) → IsPlanned k → IsRootOf l roots.other (root_bytes k) → (k ≡ l) ⊎ (k ≡ roots.other)
   says_which k planned (inl is) = inl (same_root k l planned roots.planned is)
   says_which k planned (inr is) = inr (same_root k roots.other planned other_planned is)
 

@@ -26,10 +26,11 @@ use Rattle.fsd_files.proofs.WaitLaws.{open_in_area}
 use Rattle.fsd_sound.specs.Mounted.{IsMounted}
 use Rattle.fsd_sound.specs.Shown.{records_by}
 use Rattle.fsd_sound.specs.Sound.{weak_of}
-use Rattle.fsd_sound.proofs.GrowingLaws.{grown_mounted, growing_sound}
+use Rattle.fsd_sound.proofs.GrowingLaws.{grown_mounted, growing_says, growing_sound}
 use Rattle.fsd_sound.proofs.LogPlaces.{SameLog, same_scan}
 use Rattle.fsd_sound.proofs.MountedLaws.{longer_mounted, mounted_sound}
 use Rattle.fsd_sound.proofs.OpenLaws.{drafts_worn}
+use Rattle.fsd_sound.proofs.SaidLaws.{own_alone, says_worn}
 use Rattle.fsd_sound.proofs.SizedLaws.{records_sized}
 use Rattle.fsd_sound.proofs.WindowLaws.{open_is_weak}
 use Rattle.twin_home.specs.Heal.{RootsIn}
@@ -89,11 +90,12 @@ busy_growth s n up fits idle =
 
 -- ---- what is written
 
-pub grow_touches : (n : ℕ) (bytes : List ℕ) (old left : Moment) → GrowsRoots n bytes old left → TouchesLonger is_root old left
-grow_touches n bytes old left (inl wears) = record { size = omega (arith, wears.image.size); others = λ s out. wears.image.each s }
+pub grow_touches : (n : ℕ) (bytes : List ℕ) (old left : Moment) → GrowsRoots n bytes old left → TouchesLonger n is_root old left
+grow_touches n bytes old left (inl wears) = record { size = omega (arith, wears.image.size); most = omega (arith, wears.image.size); others = λ s out. wears.image.each s }
 grow_touches n bytes old left (inr roots) =
     let touches = roots_touch bytes (longer n old) left roots in record {
       size = omega (arith, touches.size, length-extended n old.image);
+      most = omega (arith, touches.size, length-extended n old.image);
       others = λ s out. subst (λ (x : Sector). SectorWorn (open_damage old.windows s) x (sector_at left.image s)) (extended_at n old.image s) (touches.others s out);
     }
 
@@ -141,13 +143,17 @@ grows_more {M = M} {a = a} {b = b} {P = P} {R = R} g more = record {
 
 -- ---- a volume that stands
 
+planned_own : (v : VolumeValue) (k : Known) (now : Moment) → Stands state IsMemoryOf v k now → IsPlanned k.mounted.volume.layout
+planned_own v k now stands = subst IsPlanned (sym stands.fits.layout) stands.holds.planned
+
 -- nothing is done
-pub grow_still : (v : VolumeValue) (now : Moment) → LeavesGrown state IsMemoryOf v is_root now now
-grow_still v now k stands = record {
+pub grow_still : (n : ℕ) (v : VolumeValue) (now : Moment) → LeavesGrown state IsMemoryOf n v is_root now now
+grow_still n v now k stands = record {
   sound = mounted_sound k.mounted k.windows k.changes (forced_of k) now.image stands.disk;
   windows = refl;
   said = refl;
-  touches = record { size = omega arith; others = λ s out. inl refl };
+  says = λ l beside says. absurd (own_alone k.mounted.volume.layout l (weak_of k.windows) now.image (planned_own v k now stands) stands.disk.over.own.roots beside says);
+  touches = record { size = omega arith; most = omega arith; others = λ s out. inl refl };
 }
 
 module _ (v : VolumeValue) (k : Known) (old : Moment) (n : ℕ) (larger : v.layout.sectors < n) (most : n ≤ most_of v.layout) (short : AreShort old.windows) (stands : Stands state IsMemoryOf v k old) where
@@ -178,9 +184,11 @@ module _ (v : VolumeValue) (k : Known) (old : Moment) (n : ℕ) (larger : v.layo
 
   -- ---- each moment
 
-  pub grow_leaves : (left : Moment) → GrowsRoots n (root_bytes (with_sectors n v.layout)) old left → LeavesLonger k is_root old left
+  pub grow_leaves : (left : Moment) → GrowsRoots n (root_bytes (with_sectors n v.layout)) old left → LeavesLonger k n is_root old left
   grow_leaves left (inl wears) = record {
     sound = mounted_sound k.mounted k.windows k.changes (forced_of k) left.image (stands_worn v k old left short (record { image = wears.image; windows = wears.windows }) stands).disk;
+    says = λ l beside says. absurd (own_alone k.mounted.volume.layout l (weak_of k.windows) old.image (planned_own v k old stands) stands.disk.over.own.roots beside
+        (says_worn l old.image left.image (open_damage old.windows) wears.image says));
     windows = wears.windows;
     said = wears.said;
     touches = grow_touches n (root_bytes (with_sectors n v.layout)) old left (inl wears);
@@ -189,6 +197,8 @@ module _ (v : VolumeValue) (k : Known) (old : Moment) (n : ℕ) (larger : v.layo
       let written : RootsIn (root_bytes (with_sectors n k.mounted.volume.layout)) (longer n old) left = subst (λ (b : List ℕ). RootsIn b (longer n old) left) root_is roots in
       record {
         sound = growing_sound k.mounted k.windows k.changes (forced_of k) (extended n old.image) mounted_long few n sized (omega (arith, larger_own)) has_room written.first written.second written.once written.once_more left.image
+            (open_is_weak old.windows k.windows _ left.image stands.ends written.holds.worn);
+        says = growing_says k.mounted k.windows k.changes (forced_of k) (extended n old.image) mounted_long few n sized (omega (arith, larger_own)) has_room written.first written.second written.once written.once_more left.image
             (open_is_weak old.windows k.windows _ left.image stands.ends written.holds.worn);
         windows = roots.holds.windows;
         said = roots.holds.said;

@@ -1,5 +1,5 @@
 //! Growth: why a volume doesn't grow, the roots with more sectors, and the volume behind that.
-ghost use Rattle.std.specs.Prelude.{◌≡◌, ◌≤◌, ◌<◌, length, IfErr, OnOk, IsTrue};
+ghost use Rattle.std.specs.Prelude.{◌≡◌, ◌≤◌, ◌<◌, max, length, IfErr, OnOk, IsTrue};
 ghost use Rattle.volume_layout.specs.Layout.{IsSized, most_of};
 ghost use Rattle.volume_layout.specs.Root.{root_bytes};
 ghost use Rattle.sector_disk.specs.Calls.{GrowsDisk, device_in, failed_at};
@@ -36,7 +36,7 @@ pub(crate) fn write_grown<M: Machine>(m: &mut M, l: &Layout) -> Result<(), Faile
     requires room { 4 < (M.report m.old).sectors }
     ensures grows { GrowsDisk M.Machine (device_in failed_at result) (GrowsRoots l.now.sectors (root_bytes l.now)) m.old m.new }
     ensures place { IfErr result (λ failed. IsTrue (is_root failed.place)) }
-    ensures room { OnOk result (l.now.sectors ≤ (M.report m.new).sectors) }
+    ensures sectors { OnOk result ((M.report m.new).sectors ≡ max (M.report m.old).sectors l.now.sectors) }
     ensures counted { M.tells m.new → Counted result 2 (M.ledger m.old) (M.ledger m.new) }
     ensures done { OnOk result (M.honest m.new → HasGrownRoots l.now.sectors (root_bytes l.now) (M.now m.old) (M.now m.new)) }
 {

@@ -1,5 +1,5 @@
 -- Growth of a volume: what it leaves.
-use Rattle.std.specs.Prelude.{◌≡◌, ◌≤◌, ℕ, ◌-◌, ◌++◌, List, Some, Result, Ok, Err}
+use Rattle.std.specs.Prelude.{◌≡◌, ℕ, max, ◌-◌, ◌++◌, List, Some, Result, Ok, Err}
 use Rattle.std.specs.List.{range_with_len}
 use Rattle.volume_layout.specs.Layout.{with_sectors}
 use Rattle.fsd_bytes.specs.declared.refusal.Refusal.{Refusal}
@@ -13,7 +13,7 @@ use Rattle.fsd_log.specs.Scan.{Placed}
 use Rattle.fsd_files.specs.Answers.{grown}
 use Rattle.fsd_files.specs.Disk.{Sectors, TouchesLonger}
 use Rattle.fsd_sound.specs.Mounted.{Mounted}
-use Rattle.fsd_sound.specs.Sound.{IsSound}
+use Rattle.fsd_sound.specs.Sound.{EachBeside, IsSound}
 use Rattle.volume_contract.specs.State.{Counted, Known, Stands, State, forced_of, volume_of}
 
 -- ---- over any machine
@@ -26,37 +26,39 @@ with_more from to runs = runs_of (sectors_of runs ++ range_with_len from (to - f
 abbrev pub grown_state : ℕ → State → State
 grown_state n s = record s { layout = with_sectors n s.layout; free = with_more s.layout.sectors n s.free; freed = with_more s.layout.sectors n s.freed }
 
--- It has so many sectors in all, so many of them free, and the disk has as many as this.
-pub record HasGrown (n count : ℕ) (old new : State) (sectors : ℕ) : Type 0 where
+-- It has so many sectors in all, so many of them free, and the disk tells as many, or those that it told, if these are more.
+pub record HasGrown {D : Type 0} (M : Ghosts D) (n count : ℕ) (old new : State) (before now : D) : Type 0 where
   pub state : new ≡ grown_state n old
   pub free : count ≡ total new.free
-  pub room : n ≤ sectors
+  pub sectors : (M.report now).sectors ≡ max (M.report before).sectors n
 
--- Where it writes, and how many sectors it counts.
-pub record WritesLonger {D T : Type 0} (M : Ghosts D) (may : Sectors) (most : ℕ) (old new : D) (result : Result T Refusal) : Type 0 where
-  pub rest : M.honest new → TouchesLonger may (M.now old) (M.now new)
-  pub counted : M.tells new → Counted result most (M.ledger old) (M.ledger new)
+-- Where it writes, how many sectors it counts as written, and how many the image has at most.
+pub record WritesLonger {D T : Type 0} (M : Ghosts D) (n : ℕ) (may : Sectors) (count : ℕ) (old new : D) (result : Result T Refusal) : Type 0 where
+  pub rest : M.honest new → TouchesLonger n may (M.now old) (M.now new)
+  pub counted : M.tells new → Counted result count (M.ledger old) (M.ledger new)
 
 -- ---- over an honest machine
 
--- The disk is sound by the layout that the volume had, for the changes of before, and may have got more sectors.
-pub record LeavesLonger (k : Known) (may : Sectors) (old left : Moment) : Type 0 where
+-- The disk is sound by the layout that the volume had, for the changes of before. A root that says another one says that
+-- with so many sectors.
+pub record LeavesLonger (k : Known) (n : ℕ) (may : Sectors) (old left : Moment) : Type 0 where
   pub sound : IsSound k.mounted.volume.layout k.windows k.changes (forced_of k) left.image
+  pub says : EachBeside k.mounted.volume.layout left.image (λ l. l ≡ with_sectors n k.mounted.volume.layout)
   pub windows : left.windows ≡ old.windows
   pub said : left.said ≡ old.said
-  pub touches : TouchesLonger may old left
+  pub touches : TouchesLonger n may old left
 
 abbrev pub grown_known : ℕ → Known → Known
 grown_known n k = record k { mounted = record k.mounted { volume = grown n (volume_of k) } }
 
 module _ {S : Type 0} (state : S → State) (has : S → Mounted → List Placed → Type 0) where
-  abbrev pub LeavesGrown : S → Sectors → (old left : Moment) → Type 0
-  LeavesGrown s may old left = (k : Known) → Stands state has s k old → LeavesLonger k may old left
+  abbrev pub LeavesGrown : ℕ → S → Sectors → (old left : Moment) → Type 0
+  LeavesGrown n s may old left = (k : Known) → Stands state has s k old → LeavesLonger k n may old left
 
   -- it has grown, or doesn't, or the disk has failed
   abbrev pub EndsGrow : {T : Type 0} → ℕ → Known → S → Moment → Result T Refusal → Type 0
   EndsGrow n k new now (Ok x) = Stands state has new (grown_known n k) now
   EndsGrow n k new now (Err (Why.Device s)) = (state new).down ≡ Some s
-  EndsGrow n k new now (Err (Why.NotLarger had)) = Stands state has new k now
+  EndsGrow n k new now (Err (Why.NotLarger asked)) = Stands state has new k now
   EndsGrow n k new now (Err (Why.PastMost most)) = Stands state has new k now
   EndsGrow n k new now (Err other) = ⊥

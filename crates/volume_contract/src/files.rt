@@ -372,14 +372,14 @@ pub trait Files<M: Machine>: Sized {
 
     /// Gives the volume so many sectors in all, and answers how many of them are free then. The image has them first, damaged
     /// ones behind the others; then root 0 says so, and root 4. No more than it has is `NotLarger`, and more than it may
-    /// have `PastMost`, with the most; where the disk fails the volume is down, and sound both by the old number and by
-    /// this one. It takes no memory. The roots are on the disk for certain behind a `sync` of the machine.
+    /// have `PastMost`, with the most; where the disk fails the volume is down, and sound by the old number, and by this one
+    /// where a root says it. It takes no memory. The roots are on the disk for certain behind a `sync` of the machine.
     fn grow(&mut self, m: &mut M, sectors: u32) -> Result<u32, Refusal>
         requires { (state self.old).layout.sectors ≤ (M.report m.old).sectors }
         ensures order { InOrder (grow_steps (state self.old) sectors) m.old m.new result }
-        ensures disk { GrowsDisk M.Machine (device_in device_of result) (LeavesGrown state holds self.old is_root) m.old m.new }
-        ensures writes { WritesLonger M.Machine is_root 2 m.old m.new result }
-        ensures state { MatchResult result (λ free. HasGrown sectors free (state self.old) (state self.new) (M.report m.new).sectors) (λ why. KeepsRefused (grow_steps (state self.old) sectors) why (state self.old) (state self.new)) }
+        ensures disk { GrowsDisk M.Machine (device_in device_of result) (LeavesGrown state holds sectors self.old is_root) m.old m.new }
+        ensures writes { WritesLonger M.Machine sectors is_root 2 m.old m.new result }
+        ensures state { MatchResult result (λ free. HasGrown M.Machine sectors free (state self.old) (state self.new) m.old m.new) (λ why. KeepsRefused (grow_steps (state self.old) sectors) why (state self.old) (state self.new)) }
         ensures roots { OnOk result (M.honest m.new → RootsStand (state self.new) (M.now m.new)) }
         ensures done { M.honest m.new → (k : Known) → Stands state holds self.old k (M.now m.old) → EndsGrow state holds sectors k self.new (M.now m.new) result };
 

@@ -1,4 +1,4 @@
-use Rattle.std.proofs.Common.{inr, ℕ, subst}
+use Rattle.std.proofs.Common.{inr, ℕ, max, subst, ap, ◌∙◌}
 use Rattle.std.proofs.lemmas.Result.{on_ok_weaker}
 use Rattle.volume_layout.specs.Root.{root_bytes}
 use Rattle.sector_disk.specs.Calls.{GrowsDisk, device_in, failed_at}
@@ -35,4 +35,10 @@ returns-clause-done g c =
     on_ok_weaker c.write_roots.result
     (λ done h. subst (λ (n : ℕ). HasGrownRoots n bytes old new) c.sectors.ensures.value
     (over_longer c.sectors.result old mid new (c.in_ok-extend_image.ensures.done (c.write_roots.ensures.writes.trust.honest h)) bytes 1 1 (done h)))
+    c.write_roots.ensures.done
+
+pub returns-clause-sectors : goal.returns-clause-sectors
+returns-clause-sectors g c =
+    on_ok_weaker c.write_roots.result
+    (λ done. c.write_roots.ensures.writes.uses.sectors ∙ c.in_ok-extend_image.ensures.sectors ∙ ap (max (g.M.Machine.report c.args.m.now).sectors) c.sectors.ensures.value)
     c.write_roots.ensures.done

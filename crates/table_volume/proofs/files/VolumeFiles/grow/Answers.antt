@@ -10,6 +10,7 @@ use Rattle.sector_disk.specs.Image.{AreShort, open_damage}
 use Rattle.sector_disk.specs.Machine.{Moment}
 use Rattle.sector_disk.proofs.CallLaws.{grows_told, told_up, writes_as_grows, writes_none}
 use Rattle.sector_disk.proofs.Extended.{length-extended}
+use Rattle.fsd_files.specs.Disk.{TouchesLonger}
 use Rattle.fsd_sound.specs.Laid.{StandsTwice}
 use Rattle.volume_contract.specs.Ends.{device_of}
 use Rattle.volume_contract.specs.Growth.{EndsGrow, LeavesGrown, grown_known}
@@ -43,7 +44,7 @@ returns-in_err-may_grow-clause-disk g c =
     let at = c.args.m.now in
     let why = c.in_err-may_grow.field-0.0 in
     grows_told (told_up device_of c.from_residual.result why c.from_residual.ensures.1 ∙ grow_tested (λ (x : Refusal). device_of x ≡ None) (state v) c.args.sectors (λ place is. refl) refl refl why c.in_err-may_grow.ensures)
-    (writes_as_grows (writes_none at (λ left h is. g.met.M.Machine.only_now at left h is) (LeavesGrown state IsMemoryOf v is_root) (λ h. grow_still v (g.M.Machine.now at))))
+    (writes_as_grows (writes_none at (λ left h is. g.met.M.Machine.only_now at left h is) (LeavesGrown state IsMemoryOf c.args.sectors v is_root) (λ h. grow_still c.args.sectors v (g.M.Machine.now at))))
 
 pub returns-in_err-may_grow-clause-done : goal.returns-in_err-may_grow-clause-done
 returns-in_err-may_grow-clause-done g c =
@@ -69,10 +70,15 @@ module _ (g : given.Over) (c : After-write_grown g) where
   layout_is : c.with_sectors-layout.result ≡ with_sectors n c.args.self.now.layout
   layout_is = c.with_sectors-layout.ensures.value ∙ ap (λ (x : VolumeValue). with_sectors n x.layout) c.self.view_is
 
-  leaves : g.M.Machine.honest c.args.m.now → (old left : Moment) → old ≡ g.M.Machine.now c.args.m.now → GrowsRoots c.with_sectors-layout.result.sectors (root_bytes c.with_sectors-layout.result) old left → LeavesGrown state IsMemoryOf v is_root old left
+  leaves : g.M.Machine.honest c.args.m.now → (old left : Moment) → old ≡ g.M.Machine.now c.args.m.now → GrowsRoots c.with_sectors-layout.result.sectors (root_bytes c.with_sectors-layout.result) old left → LeavesGrown state IsMemoryOf c.args.sectors v is_root old left
   leaves h old left is roots k stands =
       grow_leaves v k old n between.0 between.1 (subst (λ (m : Moment). AreShort m.windows) (sym is) (g.met.M.Machine.short c.args.m.now h)) stands left
       (subst (λ (l : Layout). GrowsRoots l.sectors (root_bytes l) old left) layout_is roots)
+
+  touches : (old left : Moment) → GrowsRoots c.with_sectors-layout.result.sectors (root_bytes c.with_sectors-layout.result) old left → TouchesLonger c.args.sectors is_root old left
+  touches old left roots =
+      subst (λ (k : ℕ). TouchesLonger k is_root old left) (ap (λ (l : Layout). l.sectors) layout_is)
+      (grow_touches c.with_sectors-layout.result.sectors (root_bytes c.with_sectors-layout.result) old left roots)
 
   whole : IsWholeVolume c.args.self.now
   whole = subst IsWholeVolume c.self.view_is c.self.invariant
@@ -97,8 +103,8 @@ returns-in-Ok-clause-disk g c =
 pub returns-in-Ok-clause-writes : goal.returns-in-Ok-clause-writes
 returns-in-Ok-clause-writes g c =
     let M = g.M.Machine in
-    let l = c.with_sectors-layout.result in
-    record { rest = λ h. grow_touches l.sectors (root_bytes l) (M.now c.args.m.now) (M.now c.write_grown.new.m) (c.in-Ok.ensures.grows.exit h); counted = c.in-Ok.ensures.counted }
+    let at = (goal.at.returns-in-Ok-clause-writes g c).After-write_grown in
+    record { rest = λ h. touches g at (M.now c.args.m.now) (M.now c.write_grown.new.m) (c.in-Ok.ensures.grows.exit h); counted = c.in-Ok.ensures.counted }
 
 pub returns-in-Ok-clause-state : goal.returns-in-Ok-clause-state
 returns-in-Ok-clause-state g c =
@@ -108,7 +114,7 @@ returns-in-Ok-clause-state g c =
     record {
       state = ap state grown ∙ state_grown v n (between g at).0 (between g at).1 (whole g at);
       free = c.grown.ensures.free ∙ sym (total_of_runs c.grown.new.self.map.sectors);
-      room = omega (arith, c.in-Ok.ensures.room, ap (λ (l : Layout). l.sectors) (layout_is g at));
+      sectors = omega (arith, c.in-Ok.ensures.sectors, ap (λ (l : Layout). l.sectors) (layout_is g at));
     }
 
 pub returns-in-Ok-clause-roots : goal.returns-in-Ok-clause-roots
@@ -147,8 +153,8 @@ returns-in-Err-clause-disk g c =
 pub returns-in-Err-clause-writes : goal.returns-in-Err-clause-writes
 returns-in-Err-clause-writes g c =
     let M = g.M.Machine in
-    let l = c.with_sectors-layout.result in
-    record { rest = λ h. grow_touches l.sectors (root_bytes l) (M.now c.args.m.now) (M.now c.write_grown.new.m) (c.in-Err.ensures.grows.exit h); counted = c.in-Err.ensures.counted }
+    let at = (goal.at.returns-in-Err-clause-writes g c).After-write_grown in
+    record { rest = λ h. touches g at (M.now c.args.m.now) (M.now c.write_grown.new.m) (c.in-Err.ensures.grows.exit h); counted = c.in-Err.ensures.counted }
 
 pub returns-in-Err-clause-state : goal.returns-in-Err-clause-state
 returns-in-Err-clause-state g c =
