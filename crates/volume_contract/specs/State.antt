@@ -46,7 +46,7 @@ held_runs (Some runs ∷ places) = runs ∷ held_runs places
 -- The layout, the serial that the next creation draws, the log's anchor and end, the slot of each page's last image in
 -- it, the pages that wait for a force, the free runs now and once a force has ended, the sectors that wait, whether
 -- some of them wait for a force, those of unfinished creations, at eight places the runs of the version that a reader
--- holds by it, the free name pages, the number of versions, and the place of the force that failed.
+-- holds by it, the free name pages, the number of versions, and where a force, an upgrade or a growth has failed.
 pub record State : Type 0 where
   pub layout : Layout
   pub serial : Serial
