@@ -1,5 +1,5 @@
 -- The volume that a mount assembles.
-use Rattle.std.proofs.Common.{inl, ◌≡◌, ℕ, false, ◌&&◌, ◌||◌, List, [], replicate, None, Ok, refl, sym, ap, ◌∙◌}
+use Rattle.std.proofs.Common.{inl, ◌≡◌, ℕ, false, ◌&&◌, ◌||◌, List, [], replicate, None, refl, sym, ap, ◌∙◌}
 use Rattle.std.specs.Prelude.{nat_lt}
 use Rattle.std.proofs.Math.Bool.{and-false}
 use Rattle.std.proofs.lemmas.Bool.{true≢false}

@@ -1,6 +1,6 @@
 -- A volume that grows: each moment is sound as before, and at the end it stands with more sectors.
 use Rattle.std.proofs.Common.{◌≡◌, inl, inr, ℕ, ◌^◌, ◌<◌, ◌≤◌, ◌∷◌, [], cond, Bool, true, false, List, length, Option, Some, None, option_map, refl, sym, ap, subst, ◌∙◌, arith}
-use Rattle.std.specs.Prelude.{IsTrue, nat_le, nat_lt}
+use Rattle.std.specs.Prelude.{nat_le, nat_lt}
 use Rattle.std.proofs.lemmas.Bool.{and_parts, leb-false, leb-true, ltb-false, or_left}
 use Rattle.volume_layout.specs.declared.layout.Layout.{Layout}
 use Rattle.volume_layout.specs.Layout.{IsPlanned, IsSized, data_start, most_of, with_sectors}
@@ -10,7 +10,7 @@ use Rattle.volume_layout.proofs.RootLaws.{planned_bounds}
 use Rattle.fsd_bytes.specs.declared.refusal.Refusal.{Refusal}
 use Rattle.fsd_bytes.specs.declared.refusal.Refusal.TheVariants as Why
 use Rattle.sector_disk.specs.declared.sector.Sector.{Sector}
-use Rattle.sector_disk.specs.Image.{AreShort, IsWorn, Windows, extended, open_damage, sector_at, stand}
+use Rattle.sector_disk.specs.Image.{AreShort, IsWorn, extended, open_damage, sector_at, stand}
 use Rattle.sector_disk.specs.Machine.{Extends, Grows, Holds as HoldsImage, Moment}
 use Rattle.sector_disk.specs.Calls.{GrowsDisk}
 use Rattle.sector_disk.specs.declared.machine.Machine.{Ghosts}

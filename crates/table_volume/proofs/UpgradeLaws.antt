@@ -41,12 +41,31 @@ use Rattle.volume_contract.specs.Order.{Roots, Test, is_idle, is_root, layout_is
 use Rattle.volume_contract.specs.State.{Known, LeavesSound, StandWritten, Stands, State, forced_of}
 use Rattle.volume_contract.specs.Upgrade.{is_fresh, upgraded_known}
 use Rattle.volume_laws.specs.State.{IsMemoryOf, state}
-use Rattle.volume_laws.specs.Volume.{VolumeValue}
+use Rattle.volume_laws.specs.Volume.{IsWholeVolume, VolumeValue}
 use Rattle.volume_laws.proofs.ListLaws.{lists_of}
 
 -- the volume with layout 2
 abbrev pub with_kind_three : VolumeValue → VolumeValue
 with_kind_three v = record v { layout = with_kind Three v.layout; log = of_kind Three v.log }
+
+pub whole_upgraded : (v : VolumeValue) → IsWholeVolume v → IsWholeVolume (with_kind_three v)
+whole_upgraded v whole = record {
+  planned = planned_alike v.layout Three whole.planned;
+  map = whole.map;
+  removed = whole.removed;
+  kept = whole.kept;
+  unfinished = whole.unfinished;
+  apart = whole.apart;
+  once = whole.once;
+  log = ap (with_kind Three) whole.log;
+  epoch = whole.epoch;
+  pages = whole.pages;
+  room = whole.room;
+  unpinned = whole.unpinned;
+  waiting = whole.waiting;
+  numbered = whole.numbered;
+  still = whole.still;
+}
 
 -- ---- a fresh volume
 

@@ -10,16 +10,16 @@ use Rattle.sector_disk.specs.Machine.{Holds as HoldsImage, Moment}
 use Rattle.sector_disk.proofs.CallLaws.{writes_more, writes_none}
 use Rattle.fsd_bytes.specs.declared.refusal.Refusal.TheVariants as Why
 use Rattle.twin_home.specs.Heal.{RootsIn}
-use Rattle.volume_contract.specs.Order.{is_root, layout_is}
+use Rattle.volume_contract.specs.Order.{is_root, layout_is, with_three}
 use Rattle.volume_contract.specs.State.{Leaves, Stands}
 use Rattle.volume_contract.specs.Upgrade.{upgraded_known}
 use Rattle.volume_laws.specs.State.{IsMemoryOf, state}
 use Rattle.volume_laws.proofs.ForceMomentLaws.{touches_none}
-use Rattle.volume_laws.specs.Volume.{VolumeValue}
+use Rattle.volume_laws.specs.Volume.{IsWholeVolume, VolumeValue}
 use Rattle.volume_laws.proofs.NextLaws.{up_by}
 use Rattle.table_volume.specs.declared.volume.Volume.TheInside.{Inside}
 use Rattle.table_volume.proofs.HealingLaws.{still_leaves}
-use Rattle.table_volume.proofs.UpgradeLaws.{busy_upgrade, roots_stand, roots_touch, stands_upgraded, upgrade_leaves, with_kind_three}
+use Rattle.table_volume.proofs.UpgradeLaws.{busy_upgrade, roots_stand, roots_touch, stands_upgraded, upgrade_leaves, whole_upgraded, with_kind_three}
 use Rattle.table_volume.proofs.files.VolumeFiles.upgrade.Given as given
 use Rattle.table_volume.proofs.files.VolumeFiles.upgrade.Goals as goal
 use Rattle.std.proofs.lemmas.Result.{err_from_is_err_and}
@@ -90,6 +90,16 @@ returns-in-Ok-clause-writes g c =
       rest = λ h. roots_touch (root_bytes c.with_kind-layout.result) (M.now c.args.m.now) (M.now c.write_roots.new.m) (wrote.writes.exit h);
       counted = λ tells. ap (λ l. l.written) (wrote.counted tells);
     }
+
+pub invariant_of-self : goal.invariant_of-self
+invariant_of-self g c =
+    let v = value c.self.inside in
+    subst IsWholeVolume (λ i. record v { layout = sym c.with_kind-layout.ensures i; log = sym c.set_kind.ensures i }) (whole_upgraded v c.self.invariant)
+
+pub returns-in-Ok-clause-state : goal.returns-in-Ok-clause-state
+returns-in-Ok-clause-state g c =
+    let v = value c.self.inside in
+    (λ i. state (record v { layout = c.with_kind-layout.ensures i; log = c.set_kind.ensures i })) ∙ ap (λ (x : VolumeValue). with_three (state x)) c.self.view_is
 
 pub returns-in-Ok-clause-roots : goal.returns-in-Ok-clause-roots
 returns-in-Ok-clause-roots g c h =

@@ -10,6 +10,7 @@ use Rattle.sector_disk.specs.declared.machine.LoadFault.TheVariants as fault
 use Rattle.volume_layout.specs.declared.layout.Layout.{Layout}
 use Rattle.fsd_bytes.specs.declared.refusal.Refusal.TheVariants as Why
 use Rattle.group_commit.specs.Cached.{AreWaiting}
+use Rattle.table_survey.proofs.DataLaws.{of_data_own}
 use Rattle.volume_contract.specs.Ends.{device_of, AnswersAndStands}
 use Rattle.fsd_sound.specs.Writes.{force_writes}
 use Rattle.volume_contract.specs.Causes.{HasCallCause}
@@ -47,6 +48,9 @@ invariant_of-self g c =
     let v = value c.self.inside in
     whole_forced v c.self.invariant c.free_committed.new.map c.free_committed.new.shadow c.force_cached.new.log c.force_cached.new.cache
     c.free_committed.ensures.map c.free_committed.ensures.removed c.free_committed.ensures.kept c.free_committed.ensures.unfinished c.free_committed.ensures.held c.in-Ok.ensures.done.past c.in-Ok.ensures.done.cache
+
+pub free_committed-requires-clause-own : goal.free_committed-requires-clause-own
+free_committed-requires-clause-own g c = of_data_own c.self.inside.layout c.self.inside.map c.self.invariant.map
 
 pub invariant_of-self-in-Err : goal.invariant_of-self-in-Err
 invariant_of-self-in-Err g c =

@@ -4,7 +4,6 @@ use Rattle.volume_layout.specs.Layout.{most_of, with_sectors}
 use Rattle.sector_set.specs.Area.{AreOut, together}
 use Rattle.shadow_frees.specs.Waits.{run_between}
 use Rattle.log_thirds.specs.Append.{of_layout}
-use Rattle.volume_laws.specs.Grown.{value_grown}
 use Rattle.volume_laws.specs.Volume.{IsWholeVolume, VolumeValue}
 use Rattle.volume_laws.proofs.GrowthLaws.{more_is_out, whole_grown}
 use Rattle.table_volume.specs.declared.volume.Volume.TheInside.{Inside}
