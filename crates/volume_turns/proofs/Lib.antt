@@ -22,6 +22,7 @@ pub mod GenerateLaws
 pub mod GetLaws
 pub mod GroupEndLaws
 pub mod GroupLaws
+pub mod GrowLaws
 pub mod HaltLaws
 pub mod HealLaws
 pub mod InputLaws

@@ -1,10 +1,11 @@
 -- Calls of a volume and what is said of them, one behind the other.
-use Rattle.std.proofs.Common.{◌≡◌, ◌≤◌, ℕ, Bool, true, Option, None, Ok, Err, refl, ap, subst, arith}
+use Rattle.std.proofs.Common.{◌≡◌, ◌≤◌, ◌∙◌, ℕ, Bool, true, Option, None, Ok, Err, refl, ap, subst, arith}
 use Rattle.std.specs.Prelude.{Result}
 use Rattle.volume_layout.specs.declared.layout.Layout.{Layout}
 use Rattle.sector_disk.specs.declared.machine.Machine.{Ghosts}
-use Rattle.sector_disk.specs.Calls.{DiskFaults, WritesDisk}
+use Rattle.sector_disk.specs.Calls.{DiskFaults, GrowsDisk, WritesDisk}
 use Rattle.sector_disk.specs.Machine.{Moment}
+use Rattle.sector_disk.proofs.CallLaws.{faults_then}
 use Rattle.sector_disk.proofs.Holding.{trusts_on}
 use Rattle.fsd_texts.specs.declared.fault.Fault.{Fault}
 use Rattle.fsd_texts.specs.declared.fault.Fault.TheVariants as Ends
@@ -13,8 +14,8 @@ use Rattle.volume_turns.specs.declared.turns.Halt.TheVariants.{Fault as Stopped}
 use Rattle.volume_turns.specs.Group.{is_worn_end}
 use Rattle.volume_turns.specs.Steps.{IsOfCall, device_told}
 use Rattle.volume_turns.specs.Once.{SaysForcedOver}
-use Rattle.volume_turns.specs.Turns.{FaultToldBy, KeepsCalls, SaysText, Speaks, SpeaksBy}
-use Rattle.volume_turns.proofs.CountLaws.{told_all, told_end, told_more, told_worn_out}
+use Rattle.volume_turns.specs.Turns.{FaultToldBy, KeepsCalls, device_end, SaysText, Speaks, SpeaksBy}
+use Rattle.volume_turns.proofs.CountLaws.{unheard_on, told_all, told_end, told_more, told_worn_out}
 use Rattle.volume_turns.proofs.LongerLaws.{keeps_before, keeps_same}
 use Rattle.volume_turns.proofs.RunLaws.{later_on, since_on, told_done, told_fault}
 use Rattle.volume_turns.proofs.SyncLaws.{none_up_to, once_up_to, syncs_behind, syncs_more, syncs_then, writes_up_to}
@@ -46,6 +47,40 @@ module _ {D T : Type 0} {M : Ghosts D} where
   pub speaks_failed : {R : Moment → Moment → Type 0} {place : Option ℕ} {most : ℕ} {a b : D} (why : Fault) → place ≡ device_told why → IsOfCall why → WritesDisk M place R a b → Speaks {T = T} M most a b (Err (Stopped why))
   speaks_failed {R} {place} {most} {a} {b} why is of disk = record {
     told = told_end (M.report a) (M.report b) (Stopped why) (told_fault (M.report a) (M.report b) why disk.uses (subst (λ (o : Option ℕ). DiskFaults o (M.report a) (M.report b)) is disk.faults));
+    fault = of;
+    ledger = λ t. writes_up_to most (M.ledger a) (M.ledger b) (disk.ledger t);
+    trust = disk.trust;
+    since = disk.since;
+    later = λ h. (disk.any_moment h).later;
+  }
+
+  -- the same of a call that may give the image more sectors
+  pub speaks_grown : {R : Moment → Moment → Type 0} {most : ℕ} {a m b : D} {result : Result T Halt} → GrowsDisk M None R a m → Speaks M most m b result → SpeaksBy true M most a b result
+  speaks_grown {R} {most} {a} {m} {b} {result} disk s =
+      let told = s.told in record {
+        told = record {
+          sectors = let more = disk.sectors in let same = told.sectors in omega (arith, more, same);
+          disk = faults_then (device_end result) (M.report a) (M.report m) (M.report b) disk.faults told.disk;
+          input = told.input ∙ disk.uses.input;
+          later = let p = disk.uses.output in let q = told.later in omega (arith, p, q);
+          output = unheard_on (M.report a) (M.report m) (M.report b) disk.uses.output result told.output;
+        };
+        fault = s.fault;
+        ledger = λ t. syncs_behind most (M.ledger a) (M.ledger m) (M.ledger b) (disk.ledger (s.trust.tells t)) (s.ledger t);
+        trust = trusts_on disk.trust s.trust;
+        since = since_on M a m b s.trust.honest disk.since (λ h. (disk.any_moment h).later) s.since;
+        later = later_on M a m b s.trust.honest (λ h. (disk.any_moment h).later) s.later;
+      }
+
+  pub grown_failed : {R : Moment → Moment → Type 0} {place : Option ℕ} {most : ℕ} {a b : D} (why : Fault) → place ≡ device_told why → IsOfCall why → GrowsDisk M place R a b → SpeaksBy true {T = T} M most a b (Err (Stopped why))
+  grown_failed {R} {place} {most} {a} {b} why is of disk = record {
+    told = record {
+      sectors = disk.sectors;
+      disk = subst (λ (o : Option ℕ). DiskFaults o (M.report a) (M.report b)) is disk.faults;
+      input = disk.uses.input;
+      later = let same = disk.uses.output in omega (arith, same);
+      output = disk.uses.output;
+    };
     fault = of;
     ledger = λ t. writes_up_to most (M.ledger a) (M.ledger b) (disk.ledger t);
     trust = disk.trust;
