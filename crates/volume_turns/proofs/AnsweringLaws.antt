@@ -329,7 +329,7 @@ alone_rest Word.Tick s t a m b windows layout still none first closing quiet = f
 alone_rest Word.Scrub s t a m b windows layout still none first closing quiet =
     touches_then (scrub_writes s.layout) nowhere (scrub_writes s.layout) a m b (λ x out. out) (λ x out. refl) windows first (quiet (ap (λ (x : State). x.dirty) (still none) ∙ none))
 alone_rest Word.Upgrade s t a m b windows layout still none first closing quiet = touches_then is_root nowhere is_root a m b (λ x out. out) (λ x out. refl) windows first (quiet (still ∙ none))
-alone_rest (Word.Grow sectors) s t a m b windows layout still none first closing quiet = longer_then is_root a m b windows first (quiet (still ∙ none))
+alone_rest (Word.Grow sectors) s t a m b windows layout still none first closing quiet = longer_then sectors is_root a m b windows first (quiet (still ∙ none))
 alone_rest command s t a m b windows layout still none first closing quiet = touches_then nowhere nowhere nowhere a m b (λ x out. out) (λ x out. out) windows first (quiet (ap (λ (x : State). x.dirty) still ∙ none))
 
 keeps_said : (text : List ℕ) (a b : Moment) (r : Result ℕ Halt) → SaysBy text a b (unit_of r) → KeepsSaid a b r
@@ -421,7 +421,7 @@ behind_nothing Word.Force sectors a m b ages = inl ages
 behind_nothing Word.Tick sectors a m b ages = inl ages
 behind_nothing Word.Scrub sectors a m b ages = inl ages
 behind_nothing Word.Upgrade sectors a m b ages = worn_touches is_root m b ages.image
-behind_nothing (Word.Grow n) sectors a m b ages = worn_longer is_root m b ages.image
+behind_nothing (Word.Grow n) sectors a m b ages = worn_longer n is_root m b ages.image
 behind_nothing command sectors a m b ages = ages
 
 pub run_mounted : (command : Command) (sectors : ℕ) (s : State) (a m b : Moment) (status : ℕ) → IsFound sectors s a m → m.said ≡ a.said → MountKeeps sectors a m → EndsOne command s m b status → RunsOne command sectors a b status

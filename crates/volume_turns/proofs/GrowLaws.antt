@@ -163,8 +163,8 @@ module _ {S : Type 0} (state : S → State) (has : S → Mounted → List Placed
   stands_kept l why is = refused_as l n (λ x. (let r : Result ℕ Refusal = Err x in EndsGrow state has n k w now r) → Stands state has w k now) why is (λ ends. ends) (λ most past ends. ends)
 
 -- a stop leaves the disk sound as it was
-pub longer_stays : {S : Type 0} (state : S → State) (has : S → Mounted → List Placed → Type 0) (v : S) (may : Sectors) (old left : Moment) → LeavesGrown state has v may old left → Stays state has v old left
-longer_stays state has v may old left leaves k stands = let l = leaves k stands in record { sound = l.sound; windows = l.windows; said = l.said }
+pub longer_stays : {S : Type 0} (state : S → State) (has : S → Mounted → List Placed → Type 0) (n : ℕ) (v : S) (may : Sectors) (old left : Moment) → LeavesGrown state has n v may old left → Stays state has v old left
+longer_stays state has n v may old left leaves k stands = let l = leaves k stands in record { sound = l.sound; windows = l.windows; said = l.said }
 
 -- ---- one that is done, by itself
 

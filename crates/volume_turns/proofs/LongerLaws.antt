@@ -38,19 +38,20 @@ keeps_before longer a m b keeps same = subst (λ (n : ℕ). KeepsSectors longer 
 pub then_worn : (may : Sectors) (a b c : Moment) → b.windows ≡ a.windows → Touches may a b → IsWorn (open_damage b.windows) b.image c.image → Touches may a c
 then_worn may a b c windows first worn = touches_then may may may a b c (λ s out. out) (λ s out. out) windows first (worn_touches may b c worn)
 
-pub worn_longer : (may : Sectors) (a b : Moment) → IsWorn (open_damage a.windows) a.image b.image → TouchesLonger may a b
-worn_longer may a b worn = let same = worn.size in record { size = omega (arith, same); others = λ s out. worn.each s }
+pub worn_longer : (n : ℕ) (may : Sectors) (a b : Moment) → IsWorn (open_damage a.windows) a.image b.image → TouchesLonger n may a b
+worn_longer n may a b worn = let same = worn.size in record { size = omega (arith, same); most = omega (arith, same); others = λ s out. worn.each s }
 
-pub longer_then : (may : Sectors) (a b c : Moment) → b.windows ≡ a.windows → TouchesLonger may a b → Touches nowhere b c → TouchesLonger may a c
-longer_then may a b c windows first second = record {
+pub longer_then : (n : ℕ) (may : Sectors) (a b c : Moment) → b.windows ≡ a.windows → TouchesLonger n may a b → Touches nowhere b c → TouchesLonger n may a c
+longer_then n may a b c windows first second = record {
   size = omega (arith, first.size, second.size);
+  most = omega (arith, first.most, second.size);
   others = λ s out. worn_then (open_damage a.windows s) (sector_at a.image s) (sector_at b.image s) (sector_at c.image s) (first.others s out)
       (subst (λ (w : Windows). SectorWorn (open_damage w s) (sector_at b.image s) (sector_at c.image s)) windows (second.others s refl));
 }
 
 -- by any command
 pub touched_worn : (command : Command) (s : State) (a b c : Moment) → b.windows ≡ a.windows → TouchesBy command s a b → IsWorn (open_damage b.windows) b.image c.image → TouchesBy command s a c
-touched_worn (Word.Grow sectors) s a b c windows first worn = longer_then (may_write (Word.Grow sectors) s) a b c windows first (worn_touches nowhere b c worn)
+touched_worn (Word.Grow sectors) s a b c windows first worn = longer_then sectors (may_write (Word.Grow sectors) s) a b c windows first (worn_touches nowhere b c worn)
 touched_worn command s a b c windows first worn = then_worn (may_write command s) a b c windows first worn
 
 -- ---- what is left

@@ -133,7 +133,7 @@ may_write command s = nowhere
 
 -- it has written there alone; a growth may also have given the image more sectors
 abbrev pub TouchesBy : Command → State → (old new : Moment) → Type 0
-TouchesBy (Word.Grow sectors) s old new = TouchesLonger (may_write (Word.Grow sectors) s) old new
+TouchesBy (Word.Grow sectors) s old new = TouchesLonger sectors (may_write (Word.Grow sectors) s) old new
 -- by default there are as many as before
 TouchesBy command s old new = Touches (may_write command s) old new
 
@@ -170,7 +170,7 @@ WritesBehind Word.Force sectors old mounted new = WritesForce sectors old mounte
 WritesBehind Word.Tick sectors old mounted new = WritesForce sectors old mounted new
 WritesBehind Word.Scrub sectors old mounted new = Ages mounted new ⊎ ((volume : HasVolume sectors old) × Touches (scrub_writes volume.layout) mounted new)
 WritesBehind Word.Upgrade sectors old mounted new = Touches is_root mounted new
-WritesBehind (Word.Grow n) sectors old mounted new = TouchesLonger is_root mounted new
+WritesBehind (Word.Grow n) sectors old mounted new = TouchesLonger n is_root mounted new
 -- by default nothing
 WritesBehind command sectors old mounted new = Ages mounted new
 

@@ -23,7 +23,7 @@ use Rattle.volume_turns.proofs.grow.grow.Goals as goal
 pub returns-in-Ok-clause-disk : goal.returns-in-Ok-clause-disk
 returns-in-Ok-clause-disk g c =
     let V = g.V.Files in
-    grows_more c.in-Ok.ensures.disk (λ h left. longer_stays V.state V.holds c.args.v.now is_root (g.M.Machine.now c.args.m.now) left)
+    grows_more c.in-Ok.ensures.disk (λ h left. longer_stays V.state V.holds c.args.sectors c.args.v.now is_root (g.M.Machine.now c.args.m.now) left)
 
 pub returns-in-Ok-clause-ends : goal.returns-in-Ok-clause-ends
 returns-in-Ok-clause-ends g c =
@@ -69,7 +69,7 @@ returns-in-Err-clause-disk g c =
     let t = V.state c.grow.new.self in
     let n = c.args.sectors in
     let kept = grow_kept n s t c.requires.up c.in-Err.why c.in-Err.ensures.state in
-    let disk = grows_more c.in-Err.ensures.disk (λ h left. longer_stays V.state V.holds v is_root (g.M.Machine.now c.args.m.now) left) in
+    let disk = grows_more c.in-Err.ensures.disk (λ h left. longer_stays V.state V.holds n v is_root (g.M.Machine.now c.args.m.now) left) in
     let by = λ (f : Option ℕ). GrowsDisk g.M.Machine f (Stays V.state V.holds v) c.args.m.now c.grow.new.m in
     grow_refused (λ r. by (device_by r)) n s t c.in-Err.why c.ended_by.result c.ended_by.ensures.is kept
     (λ is. refused_as s.layout n (λ w. by (device_of w) → by (device_by {T = Reply} (Ok (Said.Refused w)))) c.in-Err.why is.0 (λ d. d) (λ most past d. d) disk) (λ place is down. subst by (ap device_of is) disk)
