@@ -96,10 +96,11 @@ impl Log {
         self.layout = self.layout.with_kind(kind);
     }
 
-    /// The volume has another number of sectors, and the log lies where it did.
+    /// The volume has this layout, that of more sectors; the log lies where it did.
     pub fn set_layout(&mut self, layout: Layout)
-        requires { layout.now ≡ with_sectors layout.now.sectors self.old.layout }
-        ensures { self.new ≡ of_layout layout.now self.old }
+        requires form { layout ≡ with_sectors layout.sectors self.old.layout }
+        requires longer { self.old.layout.sectors ≤ layout.sectors }
+        ensures { self.new ≡ of_layout layout self.old }
     {
         self.layout = layout;
     }

@@ -33,10 +33,10 @@ use Rattle.fsd_sound.proofs.MoreLaws.{sound_fewer}
 use Rattle.fsd_sound.proofs.MountedLaws.{mounted_sound}
 use Rattle.fsd_sound.proofs.WritesLaws.{data_elsewhere, elsewhere}
 use Rattle.volume_contract.specs.Ends.{Answers}
-use Rattle.volume_contract.specs.Healing.{IsWholeBut, TwinsStand}
+use Rattle.volume_contract.specs.Healing.{IsWholeBut, StandsStill, TwinsStand}
 use Rattle.volume_contract.specs.State.{State, Known, LeavesSound, Stands, forced_of, volume_of}
 use Rattle.scrub.specs.declared.whole.Healed.{Healed}
-use Rattle.scrub.specs.Leading.{IsLed}
+use Rattle.scrub.specs.Leading.{EndsLed, IsLed}
 use Rattle.scrub.specs.Scrub.{EndsHealed, EndsLooked, EndsScrub, IsForcedFrom, IsHealed, IsLooking, IsScrubbing, heal_writes, scrub_writes}
 use Rattle.scrub.specs.Walk.{IsFromOutside}
 use Rattle.fsd_files.proofs.LeaderLaws.{IsInner, data_apart}
@@ -162,6 +162,16 @@ module _ {S : Type 0} (state : S → State) (has : S → Mounted → List Placed
     where
       worn : (e : Entry) → IsTrue (is_data k.mounted.volume.layout (leader_place e)) → SectorWorn (open_damage a.windows (leader_place e)) (sector_at a.image (leader_place e)) (sector_at b.image (leader_place e))
       worn e inside = first.others (leader_place e) (twin_out l (leader_place e) (subst (λ (x : Layout). IsFalse (mount_writes x (leader_place e))) same (data_out k.mounted.volume.layout (leader_place e) inside)))
+
+  -- where it fails, it ends as its part did
+  pub led_ends : (k : Known) (z : S) (a b now : Moment) (why : Refusal) → (let r : Result ℕ Refusal = Err why in EndsLed state has k z b now r) → (let r : Result Healed Refusal = Err why in EndsHealed state has k z a now r)
+  led_ends k z a b now (Why.Device s) ends = ends
+  led_ends k z a b now Why.Memory ends = ends
+  led_ends k z a b now why ends = absurd ends
+
+  pub twins_end : (k : Known) (z : S) (a now : Moment) (why : Refusal) → (let r : Result ℕ Refusal = Err why in StandsStill state has k z now r) → (let r : Result Healed Refusal = Err why in EndsHealed state has k z a now r)
+  twins_end k z a now (Why.Device s) ends = ends
+  twins_end k z a now why ends = absurd ends
 
   -- ---- what is found behind that
 

@@ -27,9 +27,9 @@ abbrev pub grown_state : ℕ → State → State
 grown_state n s = record s { layout = with_sectors n s.layout; free = with_more s.layout.sectors n s.free; freed = with_more s.layout.sectors n s.freed }
 
 -- It has so many sectors in all, so many of them free, and the disk has as many as this.
-pub record HasGrown (n free : ℕ) (old new : State) (sectors : ℕ) : Type 0 where
+pub record HasGrown (n count : ℕ) (old new : State) (sectors : ℕ) : Type 0 where
   pub state : new ≡ grown_state n old
-  pub free : free ≡ total new.free
+  pub free : count ≡ total new.free
   pub room : n ≤ sectors
 
 -- Where it writes, and how many sectors it counts.

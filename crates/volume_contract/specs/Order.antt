@@ -122,12 +122,13 @@ IsDownBy (Why.Lost a b) old new = IsDownAt a old new
 IsDownBy why old new = ⊥
 
 -- The volume came to these steps so, and one of them refused: it is as it was at that step, which a serial drawn and a
--- force that ended before it have changed; or it is down, where a force or a write of a root has failed.
+-- force that ended before it have changed; or it is down, where a force or a write of a root has failed. The roots are the
+-- last step of a call: behind them nothing refuses it.
 abbrev pub KeepsRefused : List CallStep → Refusal → (at new : State) → Type 0
 KeepsRefused [] r at new = ⊥
 KeepsRefused (Draw ∷ steps) r at new = KeepsRefused steps r (with_drawn at) new
 KeepsRefused (Force true ∷ steps) r at new = IsDownBy r at new ⊎ ((next : State) × IsForced at next × KeepsRefused steps r next new)
-KeepsRefused (Roots ∷ steps) r at new = (StepRefuses Roots r × (new ≡ record at { down = downs_for r })) ⊎ KeepsRefused steps r (with_three at) new
+KeepsRefused (Roots ∷ steps) r at new = StepRefuses Roots r × (new ≡ record at { down = downs_for r })
 KeepsRefused (step ∷ steps) r at new = (StepRefuses step r × (new ≡ at)) ⊎ (PassesTest step × KeepsRefused steps r at new)
 
 -- What a call that may force keeps of a volume, whatever it answers: where it does what it is for it ends so, and what a

@@ -1,7 +1,7 @@
 -- Steps of a call, and more of them behind.
 use Rattle.std.proofs.Common.{◌≡◌, inl, inr, ℕ, Bool, true, false, List, [], ◌∷◌, ◌++◌, Option, Some, None, refl, ap, subst, ◌∙◌}
 use Rattle.fsd_bytes.specs.declared.refusal.Refusal.{Refusal}
-use Rattle.volume_contract.specs.Order.{Comes, KeepsRefused, CallStep, Test, Draw, Force, Roots, Through, is_idle, with_drawn, with_three}
+use Rattle.volume_contract.specs.Order.{Comes, KeepsRefused, CallStep, Test, Draw, Force, Roots, Through, is_idle, with_drawn}
 use Rattle.volume_contract.specs.State.{GoesOn, State}
 use Rattle.volume_laws.specs.Steps.{Went}
 
@@ -32,8 +32,7 @@ pub keeps_more : (steps more : List CallStep) (r : Refusal) (at new : State) →
 keeps_more [] more r at new keeps = absurd keeps
 keeps_more (Draw ∷ steps) more r at new keeps = keeps_more steps more r (with_drawn at) new keeps
 keeps_more (Force b ∷ steps) more r at new keeps = force_more b steps more r at new (λ s rest. keeps_more steps more r s new rest) keeps
-keeps_more (Roots ∷ steps) more r at new (inl here) = inl here
-keeps_more (Roots ∷ steps) more r at new (inr later) = inr (keeps_more steps more r (with_three at) new later)
+keeps_more (Roots ∷ steps) more r at new keeps = keeps
 keeps_more (step ∷ steps) more r at new (inl here) = inl here
 keeps_more (step ∷ steps) more r at new (inr later) = inr (later.0, keeps_more steps more r at new later.1)
 
@@ -41,7 +40,7 @@ pub keeps_behind : (steps more : List CallStep) (r : Refusal) (at mid new : Stat
 keeps_behind [] more r at mid new went keeps = subst (λ (s : State). KeepsRefused more r s new) went keeps
 keeps_behind (Draw ∷ steps) more r at mid new went keeps = keeps_behind steps more r (with_drawn at) mid new went keeps
 keeps_behind (Force true ∷ steps) more r at mid new went keeps = inr (went.0, went.1, keeps_behind steps more r went.0 mid new went.2 keeps)
-keeps_behind (Roots ∷ steps) more r at mid new went keeps = inr (keeps_behind steps more r (with_three at) mid new went keeps)
+keeps_behind (Roots ∷ steps) more r at mid new went keeps = absurd went
 keeps_behind (step ∷ steps) more r at mid new went keeps = inr (went.0, keeps_behind steps more r at mid new went.1 keeps)
 
 -- ---- what was gone through
@@ -50,14 +49,14 @@ pub went_then : (steps more : List CallStep) (at mid new : State) → Went steps
 went_then [] more at mid new went rest = subst (λ (s : State). Went more s new) went rest
 went_then (Draw ∷ steps) more at mid new went rest = went_then steps more (with_drawn at) mid new went rest
 went_then (Force true ∷ steps) more at mid new went rest = (went.0, went.1, went_then steps more went.0 mid new went.2 rest)
-went_then (Roots ∷ steps) more at mid new went rest = went_then steps more (with_three at) mid new went rest
+went_then (Roots ∷ steps) more at mid new went rest = absurd went
 went_then (step ∷ steps) more at mid new went rest = (went.0, went_then steps more at mid new went.1 rest)
 
 pub went_through : (steps : List CallStep) (at new : State) → Went steps at new → Through steps
 went_through [] at new went = tt
 went_through (Draw ∷ steps) at new went = (tt, went_through steps (with_drawn at) new went)
 went_through (Force true ∷ steps) at new went = (tt, went_through steps went.0 new went.2)
-went_through (Roots ∷ steps) at new went = (tt, went_through steps (with_three at) new went)
+went_through (Roots ∷ steps) at new went = absurd went
 went_through (step ∷ steps) at new went = (went.0, went_through steps at new went.1)
 
 -- as many name pages are free
@@ -65,7 +64,7 @@ pub went_pages : (steps : List CallStep) (at new : State) → Went steps at new 
 went_pages [] at new went = ap (λ (s : State). s.free_pages) went
 went_pages (Draw ∷ steps) at new went = went_pages steps (with_drawn at) new went
 went_pages (Force true ∷ steps) at new went = went_pages steps went.0 new went.2 ∙ ap (λ (s : State). s.free_pages) went.1.is
-went_pages (Roots ∷ steps) at new went = went_pages steps (with_three at) new went
+went_pages (Roots ∷ steps) at new went = absurd went
 went_pages (step ∷ steps) at new went = went_pages steps at new went.1
 
 -- ---- steps of which none does anything

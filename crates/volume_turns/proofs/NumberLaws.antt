@@ -14,7 +14,7 @@ use Rattle.fsd_texts.specs.declared.fault.Fault.TheVariants as Ends
 use Rattle.fsd_texts.specs.declared.line.Line.{Line}
 use Rattle.fsd_texts.specs.declared.line.Line.TheVariants as Says
 use Rattle.fsd_texts.specs.Text.{text}
-use Rattle.volume_contract.specs.Order.{CallStep, Draw, Force, IsDownBy, KeepsRefused, PassesTest, StepRefuses, Roots, delete_steps, force_steps, keep_steps, load_steps, move_steps, put_steps, with_drawn, with_three}
+use Rattle.volume_contract.specs.Order.{CallStep, Draw, Force, IsDownBy, KeepsRefused, PassesTest, StepRefuses, Roots, delete_steps, force_steps, keep_steps, load_steps, move_steps, put_steps, with_drawn}
 use Rattle.volume_contract.specs.State.{HasCounted, IsDownAt, IsForced, IsNew, State, enters_again, forces_first, forces_for_place, is_worn, moved_third, numbered}
 use Rattle.volume_turns.specs.declared.turns.Halt.{Halt}
 use Rattle.volume_turns.specs.declared.turns.Halt.TheVariants.{Fault as Stopped}
@@ -126,11 +126,10 @@ keeps_goes (Draw ∷ steps) r s t keeps =
     record { serials = let a = more.serials in omega (arith, a); records = more.records }
 keeps_goes (Force true ∷ steps) r s t keeps = forces_then steps r s t (λ next k. keeps_goes steps r next t k) keeps
 keeps_goes (Force false ∷ steps) r s t keeps = let x = stays steps (StepRefuses (Force false) r) (PassesTest (Force false)) r s t (λ k. keeps_goes steps r s t k) keeps in record { serials = x.serials; records = let n = x.records in omega (arith, n) }
-keeps_goes (Roots ∷ steps) r s t (inl here) = record {
+keeps_goes (Roots ∷ steps) r s t here = record {
   serials = let e = ap (λ (x : State). x.serial.count) here.1 in omega (arith, e);
   records = let e = ap (λ (x : State). x.head.number) here.1 in omega (arith, e);
 }
-keeps_goes (Roots ∷ steps) r s t (inr later) = let x = keeps_goes steps r (with_three s) t later in record { serials = x.serials; records = x.records }
 keeps_goes (step ∷ steps) r s t keeps = let x = stays steps (StepRefuses step r) (PassesTest step) r s t (λ k. keeps_goes steps r s t k) keeps in record { serials = x.serials; records = x.records }
 
 pub one_force : (b : Bool) → cond b 1 0 + 0 ≤ 1

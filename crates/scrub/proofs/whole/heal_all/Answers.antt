@@ -7,7 +7,7 @@ use Rattle.fsd_files.specs.Disk.{Touches}
 use Rattle.scrub.specs.Telling.{TellsOn}
 use Rattle.scrub.proofs.KeptLaws.{healed_both}
 use Rattle.scrub.proofs.ToldLaws.{heal_told}
-use Rattle.scrub.proofs.WholeLaws.{heal_rest, heal_within, healed_all, leaders_leave, twins_leave, twins_then}
+use Rattle.scrub.proofs.WholeLaws.{heal_rest, heal_within, healed_all, leaders_leave, led_ends, twins_end, twins_leave, twins_then}
 use Rattle.scrub.proofs.whole.heal_all.Goals as goal
 
 pub returns-in-Ok-heal_leaders-clause-disk : goal.returns-in-Ok-heal_leaders-clause-disk
@@ -55,6 +55,19 @@ returns-in-Err-clause-disk g c =
     let V = g.V.Files in
     writes_more {R = LeavesScrubbed V.state V.holds c.args.v.now} c.in-Err.ensures.disk
     (λ h left leaves k stands. twins_leave k (V.state c.args.v.now).layout stands.fits.layout (g.M.Machine.now c.args.m.now) left (leaves k stands))
+
+pub returns-in-Err-heal_leaders-clause-done : goal.returns-in-Err-heal_leaders-clause-done
+returns-in-Err-heal_leaders-clause-done g c h k stands =
+    let V = g.V.Files in
+    let M = g.M.Machine in
+    let call = c.in-Err-heal_leaders.ensures in
+    led_ends V.state V.holds k c.heal_leaders.new.v (M.now c.args.m.now) (M.now c.heal.new.m) (M.now c.heal_leaders.new.m) c.in-Err-heal_leaders.why (call.done h k (c.in-Ok.ensures.done (call.disk.trust.honest h) k stands))
+
+pub returns-in-Err-clause-done : goal.returns-in-Err-clause-done
+returns-in-Err-clause-done g c h k stands =
+    let V = g.V.Files in
+    let M = g.M.Machine in
+    twins_end V.state V.holds k c.heal.new.self (M.now c.args.m.now) (M.now c.heal.new.m) c.in-Err.why (c.in-Err.ensures.done h k stands)
 
 -- ---- what is written and told
 
