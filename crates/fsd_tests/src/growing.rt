@@ -236,7 +236,7 @@ fn event_of(stops: bool, count: u64) -> Event {
         Event::Stop { after: count }
     } else {
         Event::FailCall {
-            call: count + 1,
+            call: count.saturating_add(1),
             stand: 0,
         }
     }
@@ -260,7 +260,7 @@ fn wrong_event(
     Ok(None)
 }
 
-// Where nothing wears such a growth writes eight sectors, and makes 65 calls of the disk.
+// Where nothing wears such a growth writes eight sectors, and its reply is said by the 65th call.
 #[test]
 fn a_stopped_growth_is_done_or_not(rt: HostRuntime) -> Result<(), Fail> {
     for (format, held) in [(SMALL, 0), (SMALL_TWO, 0), (SMALL, 1000)] {
@@ -294,11 +294,12 @@ fn hurt(sector: u32) -> Event {
 }
 
 // The first sector of a weak run of so many, of which a growth that stops at a root, or behind both, leaves anything else
-// where the run is damaged as it begins and again before the next one.
+// where these sectors of the run are damaged as it begins and again before the next one.
 fn wrong_run(alloc: Global, format: &str, count: u32) -> Result<Option<u32>, AllocError> {
     let image = with_version(alloc, format)?;
-    for first in [0, 4, 8, 12, 16, 616, 636, 655, 720] {
-        let [a, b, c] = [hurt(first), hurt(first + 1), hurt(first + (count - 1))];
+    for first in [0u32, 4, 8, 12, 16, 616, 636, 655, 720] {
+        let last = first.saturating_add(count.saturating_sub(1));
+        let [a, b, c] = [hurt(first), hurt(first.saturating_add(1)), hurt(last)];
         for stop in [FIRST_ROOT, SECOND_ROOT, BEHIND_ROOTS] {
             let m = weak(alloc, image.as_slice(), count, [first; 3])?;
             if !is_done_or_not(alloc, m, 0, [&[a, b, c, stop], &[a, b, c]])? {
