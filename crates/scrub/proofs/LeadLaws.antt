@@ -43,7 +43,7 @@ use Rattle.scrub.proofs.WalkLaws.{walked_all, walked_at, walked_counted, walked_
 
 -- ---- what is written in two calls
 
-worn_then : (weak : Bool) (x y z : Sector) → SectorWorn weak x y → SectorWorn weak y z → SectorWorn weak x z
+pub worn_then : (weak : Bool) (x y z : Sector) → SectorWorn weak x y → SectorWorn weak y z → SectorWorn weak x z
 worn_then weak x y z (inl a) (inl b) = inl (b ∙ a)
 worn_then weak x y z (inr a) (inl b) = inr (a.0, b ∙ a.1)
 worn_then weak x y z first (inr b) = inr b

@@ -1,5 +1,7 @@
-use Rattle.std.proofs.Common.{ap}
-use Rattle.volume_contract.specs.State.{State}
+use Rattle.std.proofs.Common.{None, ap}
+use Rattle.volume_contract.specs.State.{State, volume_of}
+use Rattle.fsd_files.specs.Answers.{entry_after}
+use Rattle.scrub.proofs.LookedLaws.{outside_only}
 use Rattle.scrub.proofs.ToldLaws.{told_by}
 use Rattle.volume_dump.proofs.span.weigh.Goals as goal
 
@@ -14,3 +16,6 @@ returns-in-Err-clause-tells g c = λ h.
     let now = g.M.Machine.now in
     let e = c.in-Err.ensures in
     told_by (V.state c.args.v.now) (V.state c.next_one.new.v) (V.resident c.args.v.now) (now c.args.m.now) (now c.next_one.new.m) (ap (λ (s : State). s.layout) e.reads.same) c.in-Err.why (e.tells.causes h)
+
+pub returns-in-Err-clause-done : goal.returns-in-Err-clause-done
+returns-in-Err-clause-done g c h k stands = outside_only (entry_after None (volume_of k).entries) c.in-Err.why (c.in-Err.ensures.done h k stands)

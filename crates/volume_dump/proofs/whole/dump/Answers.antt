@@ -1,5 +1,5 @@
-use Rattle.std.proofs.Common.{ℕ, Bool, Option, [], Err, false, sym, ◌∙◌, subst, arith}
-use Rattle.std.specs.Prelude.{vec_len}
+use Rattle.std.proofs.Common.{◌≡◌, ℕ, Bool, Option, [], Err, false, sym, ◌∙◌, subst, arith}
+use Rattle.std.specs.Prelude.{◌==◌, IsFalse, length, vec_len}
 use Rattle.std.proofs.lemmas.Bool.{eqb-true}
 use Rattle.std.proofs.lemmas.List.{nil_from_length}
 use Rattle.sector_disk.specs.Machine.{Moment}
@@ -52,6 +52,17 @@ returns-else-is_empty-clause-disk g c =
     let M = g.M.Machine in
     let a = M.now c.args.m.now in
     says_more {R = LeavesDumped V.state V.holds c.args.v.now c.args.span} (reads_as_says c.in-Ok.ensures.reads.disk) (λ h left worn. (wears_some a left worn, λ k stands. wears_utters _ a left worn))
+
+pub returns-else-is_empty-clause-done : goal.returns-else-is_empty-clause-done
+returns-else-is_empty-clause-done g c h k stands =
+    let survey = c.in-Ok.ensures in
+    let long = c.survey.new.found.ok.0 in
+    let same : vec_len c.survey.new.found ≡ length c.survey.new.found.items = omega (arith, long) in
+    record {
+      some = subst (λ (n : ℕ). IsFalse (n == 0)) same (sym c.is_empty.ensures ∙ c.if-is_empty.false);
+      finds = (survey.done h k stands).picks;
+      quiet = (survey.reads.disk.worn h).said;
+    }
 
 pub returns-in-Err-clause-disk : goal.returns-in-Err-clause-disk
 returns-in-Err-clause-disk g c =
