@@ -34,20 +34,18 @@ use Rattle.scrub.proofs.LeadLaws.{touches_then, worn_touches}
 use Rattle.volume_turns.specs.declared.turns.Halt.{Halt}
 use Rattle.volume_turns.specs.declared.turns.Halt.TheVariants.{Fault as Stopped, Output}
 use Rattle.volume_turns.specs.Answering.{MayAnswer, AnswersAlone, ClosesBy, EndsOne, RunsOne, SaysBy, SaysNoReply, SaysOne, SaysReply}
-use Rattle.volume_turns.specs.Commands.{HasDamaged, KeepsState, LacksRoom, MayLose, MayReply, WritesBehind, WritesForce, may_write}
+use Rattle.volume_turns.specs.Commands.{HasDamaged, KeepsState, LacksRoom, MayLose, MayReply, TouchesBy, WritesBehind, WritesForce}
 use Rattle.volume_turns.specs.Once.{unit_of}
 use Rattle.volume_turns.specs.Line.{EndsWith}
 use Rattle.volume_turns.specs.Steps.{IsToldOn, ended_by, read_ended_by}
 use Rattle.volume_turns.specs.Syncs.{SyncsOnce}
 use Rattle.volume_turns.specs.Turns.{KeepsSaid, SaysAll, Unsaid}
+use Rattle.volume_turns.proofs.LongerLaws.{longer_then, then_worn, touched_worn, worn_longer}
 use Rattle.volume_turns.proofs.OrderLaws.{edit_rest, few_best, keep_small, load_rest, make_rest, move_rest, put_rest, sizeless, starts_up, steps_of, table_rest}
 use Rattle.volume_turns.proofs.StatusLaws.{look_up_ends, loss_looks}
 use Rattle.volume_turns.proofs.ToldLaws.{told_may}
 
 -- ---- what is touched
-
-then_worn : (may : Sectors) (a b c : Moment) → b.windows ≡ a.windows → Touches may a b → IsWorn (open_damage b.windows) b.image c.image → Touches may a c
-then_worn may a b c windows first worn = touches_then may may may a b c (λ s out. out) (λ s out. out) windows first (worn_touches may b c worn)
 
 pub worn_first : (a b c : Moment) → b.windows ≡ a.windows → IsWorn (open_damage a.windows) a.image b.image → Touches nowhere b c → Touches nowhere a c
 worn_first a b c windows worn then = touches_then nowhere nowhere nowhere a b c (λ s out. out) (λ s out. out) windows (worn_touches nowhere a b worn) then
@@ -319,8 +317,8 @@ made_rest need s t a m b windows layout first closing =
     let may = put_writes s need in
     touches_then may (force_writes t.layout) may a m b (λ x out. out) (λ x out. subst (λ (l : Layout). IsFalse (force_writes l x)) (sym layout) (or_left (force_writes s.layout x) (in_place (place_in s need) x) out)) windows first closing
 
-alone_rest : (command : Command) (s t : State) (a m b : Moment) → m.windows ≡ a.windows → t.layout ≡ s.layout → KeepsState command s t → s.dirty ≡ [] → Touches (may_write command s) a m → Touches (force_writes t.layout) m b → (t.dirty ≡ [] → Touches nowhere m b)
-    → Touches (may_write command s) a b
+alone_rest : (command : Command) (s t : State) (a m b : Moment) → m.windows ≡ a.windows → t.layout ≡ s.layout → KeepsState command s t → s.dirty ≡ [] → TouchesBy command s a m → Touches (force_writes t.layout) m b → (t.dirty ≡ [] → Touches nowhere m b)
+    → TouchesBy command s a b
 alone_rest (Word.Put name bytes keep) s t a m b windows layout still none first closing quiet = made_rest (sectors_for (length bytes)) s t a m b windows layout first closing
 alone_rest (Word.Load key keep bytes) s t a m b windows layout still none first closing quiet = made_rest (sectors_for (length bytes)) s t a m b windows layout first closing
 alone_rest (Word.Delete key) s t a m b windows layout still none first closing quiet = force_rest s t a m b windows layout first closing
@@ -331,6 +329,7 @@ alone_rest Word.Tick s t a m b windows layout still none first closing quiet = f
 alone_rest Word.Scrub s t a m b windows layout still none first closing quiet =
     touches_then (scrub_writes s.layout) nowhere (scrub_writes s.layout) a m b (λ x out. out) (λ x out. refl) windows first (quiet (ap (λ (x : State). x.dirty) (still none) ∙ none))
 alone_rest Word.Upgrade s t a m b windows layout still none first closing quiet = touches_then is_root nowhere is_root a m b (λ x out. out) (λ x out. refl) windows first (quiet (still ∙ none))
+alone_rest (Word.Grow sectors) s t a m b windows layout still none first closing quiet = longer_then is_root a m b windows first (quiet (still ∙ none))
 alone_rest command s t a m b windows layout still none first closing quiet = touches_then nowhere nowhere nowhere a m b (λ x out. out) (λ x out. out) windows first (quiet (ap (λ (x : State). x.dirty) still ∙ none))
 
 keeps_said : (text : List ℕ) (a b : Moment) (r : Result ℕ Halt) → SaysBy text a b (unit_of r) → KeepsSaid a b r
@@ -387,7 +386,7 @@ module _ (command : Command) (s : State) (a m : Moment) (none : s.dirty ≡ []) 
   one_failed b why status x utters ends = record {
     windows = utters.windows ∙ x.windows;
     says = inr (fault_alone why a m b status x.quiet ends);
-    rest = then_worn (may_write command s) a m b x.windows (x.rest none) utters.image;
+    rest = touched_worn command s a m b x.windows (x.rest none) utters.image;
   }
 
   pub one_unheard : AnswersAlone command s a m (Err Output) → EndsOne command s a m 6
@@ -399,7 +398,7 @@ module _ (command : Command) (s : State) (a m : Moment) (none : s.dirty ≡ []) 
 found_force : (sectors : ℕ) (s : State) (a m b : Moment) → IsFound sectors s a m → Touches (force_writes s.layout) m b → WritesForce sectors a m b
 found_force sectors s a m b found rest = inr (record { seen = found.seen; from = found.from; layout = s.layout; anchor = found.anchor; found = found.found; left = found.left }, rest)
 
-behind_mount : (command : Command) (sectors : ℕ) (s : State) (a m b : Moment) → IsFound sectors s a m → b.windows ≡ m.windows → Touches (may_write command s) m b → WritesBehind command sectors a m b
+behind_mount : (command : Command) (sectors : ℕ) (s : State) (a m b : Moment) → IsFound sectors s a m → b.windows ≡ m.windows → TouchesBy command s m b → WritesBehind command sectors a m b
 behind_mount (Word.Put name bytes keep) sectors s a m b found windows rest = tt
 behind_mount (Word.Delete key) sectors s a m b found windows rest = found_force sectors s a m b found rest
 behind_mount (Word.Keep name keep) sectors s a m b found windows rest = found_force sectors s a m b found rest
@@ -409,6 +408,7 @@ behind_mount Word.Force sectors s a m b found windows rest = found_force sectors
 behind_mount Word.Tick sectors s a m b found windows rest = found_force sectors s a m b found rest
 behind_mount Word.Scrub sectors s a m b found windows rest = inr (record { seen = found.seen; from = found.from; layout = s.layout; anchor = found.anchor; found = found.found; left = found.left }, rest)
 behind_mount Word.Upgrade sectors s a m b found windows rest = rest
+behind_mount (Word.Grow n) sectors s a m b found windows rest = rest
 behind_mount command sectors s a m b found windows rest = touches_ages m b windows rest
 
 behind_nothing : (command : Command) (sectors : ℕ) (a m b : Moment) → Ages m b → WritesBehind command sectors a m b
@@ -421,6 +421,7 @@ behind_nothing Word.Force sectors a m b ages = inl ages
 behind_nothing Word.Tick sectors a m b ages = inl ages
 behind_nothing Word.Scrub sectors a m b ages = inl ages
 behind_nothing Word.Upgrade sectors a m b ages = worn_touches is_root m b ages.image
+behind_nothing (Word.Grow n) sectors a m b ages = worn_longer is_root m b ages.image
 behind_nothing command sectors a m b ages = ages
 
 pub run_mounted : (command : Command) (sectors : ℕ) (s : State) (a m b : Moment) (status : ℕ) → IsFound sectors s a m → m.said ≡ a.said → MountKeeps sectors a m → EndsOne command s m b status → RunsOne command sectors a b status

@@ -1,5 +1,5 @@
 -- A run behind its mount: over the volume that was mounted, or by the line of the fault that refused it.
-use Rattle.std.proofs.Common.{◌≡◌, inl, inr, ℕ, ◌≤◌, false, List, [], Option, None, ◌∙◌, subst, arith}
+use Rattle.std.proofs.Common.{◌≡◌, inl, inr, ℕ, Bool, ◌≤◌, false, List, [], Option, None, ◌∙◌, subst, arith}
 use Rattle.std.specs.Prelude.{IsSome, IsTrue, Ok, Err, slice_get}
 use Rattle.volume_layout.specs.declared.layout.Layout.{Layout}
 use Rattle.sector_disk.specs.declared.machine.Machine.{Ghosts}
@@ -29,7 +29,7 @@ use Rattle.volume_turns.specs.Causes.{FailsInput, Front, SaysFaultAt, SaysOfCall
 use Rattle.volume_turns.specs.Healing.{EndsHealed, HealsOver, IfScrub, is_of_answer}
 use Rattle.volume_turns.specs.Line.{EndsWith, IsStatusFor, is_unsaid}
 use Rattle.volume_turns.specs.Once.{end_by_mount}
-use Rattle.volume_turns.specs.Status.{CountsRun, CountsTaking}
+use Rattle.volume_turns.specs.Status.{CountsRunBy, CountsTaking}
 use Rattle.volume_turns.specs.Steps.{IsOfVolume}
 use Rattle.volume_turns.specs.Turns.{OnDisk}
 use Rattle.volume_turns.specs.Whole.{GoesUnsaid, RunsOut}
@@ -68,8 +68,8 @@ module _ {S D : Type 0} {state : S → State} {M : Ghosts D} {sectors : ℕ} {v 
   pub over_input : M.tells b → (M.ledger m).input ≡ (M.ledger a).input
   over_input t = (x.disk.ledger (x.trust.tells t)).input
 
-  pub over_counts : {status : ℕ} → CountsRun (M.report m) (M.report b) status → CountsRun (M.report a) (M.report b) status
-  over_counts {status} counts = counts_after (M.report a) (M.report m) (M.report b) status x.disk.uses x.disk.faults counts
+  pub over_counts : {longer : Bool} {status : ℕ} → CountsRunBy longer (M.report m) (M.report b) status → CountsRunBy longer (M.report a) (M.report b) status
+  over_counts {longer} {status} counts = counts_after (M.report a) (M.report m) (M.report b) status x.disk.uses x.disk.faults counts
 
   pub over_taking : {status : ℕ} → CountsTaking (M.report m) (M.report b) status → CountsTaking (M.report a) (M.report b) status
   over_taking {status} counts = script_counts_after (M.report a) (M.report m) (M.report b) status x.disk.uses x.disk.faults counts
@@ -142,8 +142,8 @@ module _ {D : Type 0} {M : Ghosts D} {sectors : ℕ} {fault : MountFault} {why :
   pub refused_of : IsOfVolume why
   refused_of = mount_of_volume fault why x.is
 
-  pub refused_counts : CountsRun (M.report a) (M.report b) status
-  refused_counts = mount_counts (M.report a) (M.report m) (M.report b) status x.says.spares fault x.disk.uses x.disk.faults (subst (λ (w : Fault). IsStatusFor w status) x.is x.for)
+  pub refused_counts : {longer : Bool} → CountsRunBy longer (M.report a) (M.report b) status
+  refused_counts {longer} = mount_counts {longer = longer} (M.report a) (M.report m) (M.report b) status x.says.spares fault x.disk.uses x.disk.faults (subst (λ (w : Fault). IsStatusFor w status) x.is x.for)
 
   pub refused_taking : CountsTaking (M.report a) (M.report b) status
   refused_taking = script_counts (M.report a) (M.report b) status refused_counts

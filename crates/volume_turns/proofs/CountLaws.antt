@@ -1,5 +1,5 @@
 -- Commands that are counted as they are done.
-use Rattle.std.proofs.Common.{◌≡◌, ℕ, zero, suc, ◌+◌, ◌≤◌, List, [], ◌∷◌, length, true, false, Option, Some, None, refl, sym, ◌∙◌, ap, subst, arith}
+use Rattle.std.proofs.Common.{◌≡◌, ℕ, Bool, zero, suc, ◌+◌, ◌≤◌, List, [], ◌∷◌, length, true, false, Option, Some, None, refl, sym, ◌∙◌, ap, subst, arith}
 use Rattle.std.proofs.lemmas.Option.{same_Some}
 use Rattle.fsd_log.specs.Scan.{Placed}
 use Rattle.std.specs.Prelude.{IsTrue, Result, Ok, Err, IfOk}
@@ -38,8 +38,9 @@ use Rattle.volume_turns.specs.Once.{ClosesAndSays, unit_of}
 use Rattle.volume_turns.specs.Seats.{DoesIn, IsAnsweredIn, Seated, SitsAt, StaysIn, known_of, seated, session_in}
 use Rattle.volume_turns.specs.Tally.{all_counted, counted, nothing_done}
 use Rattle.volume_turns.specs.Steps.{StaysSoundFor}
-use Rattle.volume_turns.specs.Turns.{KeepsCalls, OnDisk, FaultTold, Unheard, device_end, RunsTurns, RunsFrom, SaysAll, Steps, StepsOk, UttersBehind}
+use Rattle.volume_turns.specs.Turns.{KeepsCalls, OnDisk, FaultTold, FaultToldBy, Unheard, device_end, RunsTurns, RunsFrom, SaysAll, Steps, StepsOk, UttersBehind}
 use Rattle.volume_turns.proofs.GroupLaws.{group_all, group_all_mets, group_stop, group_worn}
+use Rattle.volume_turns.proofs.LongerLaws.{keeps_behind}
 use Rattle.volume_turns.proofs.RunLaws.{from_both, from_both_mets, reply_is, runs_nil, runs_nil_mets, step_fault, step_ok, step_ok_met, step_unsaid}
 use Rattle.volume_turns.proofs.SeatLaws.{seat_wears}
 use Rattle.volume_turns.proofs.TurnLaws.{said_nothing, stays_stops}
@@ -213,19 +214,19 @@ unheard_on a b c same (Err Output) rose = omega (arith, same, rose)
 unheard_on a b c same (Err (Stopped fault)) is = is ∙ same
 unheard_on a b c same (Ok u) is = is ∙ same
 
-pub told_more : {T U : Type 0} (a b c : Report) (u : U) (r : Result T Halt) → FaultTold {T = U} a b (Ok u) → FaultTold {T = T} b c r → FaultTold {T = T} a c r
-told_more a b c u r x y = record {
-  sectors = y.sectors ∙ x.sectors;
+pub told_more : {longer : Bool} {T U : Type 0} (a b c : Report) (u : U) (r : Result T Halt) → FaultTold {T = U} a b (Ok u) → FaultToldBy longer {T = T} b c r → FaultToldBy longer {T = T} a c r
+told_more {longer} a b c u r x y = record {
+  sectors = keeps_behind longer a.sectors b.sectors c.sectors x.sectors y.sectors;
   disk = faults_then (device_end r) a b c x.disk y.disk;
   input = y.input ∙ x.input;
   later = let p = x.later in let q = y.later in omega (arith, p, q);
   output = unheard_on a b c x.output r y.output;
 }
 
-pub told_all : {T U : Type 0} (a b : Report) (t : T) (u : U) → FaultTold {T = T} a b (Ok t) → FaultTold {T = U} a b (Ok u)
+pub told_all : {longer : Bool} {T U : Type 0} (a b : Report) (t : T) (u : U) → FaultToldBy longer {T = T} a b (Ok t) → FaultToldBy longer {T = U} a b (Ok u)
 told_all a b t u x = record { sectors = x.sectors; disk = x.disk; input = x.input; later = x.later; output = x.output }
 
-pub told_end : {T U : Type 0} (a b : Report) (end : Halt) → FaultTold {T = T} a b (Err end) → FaultTold {T = U} a b (Err end)
+pub told_end : {longer : Bool} {T U : Type 0} (a b : Report) (end : Halt) → FaultToldBy longer {T = T} a b (Err end) → FaultToldBy longer {T = U} a b (Err end)
 told_end a b (Stopped fault) x = record { sectors = x.sectors; disk = x.disk; input = x.input; later = x.later; output = x.output }
 told_end a b Output x = record { sectors = x.sectors; disk = x.disk; input = x.input; later = x.later; output = x.output }
 

@@ -23,7 +23,7 @@ use Rattle.volume_contract.specs.Causes.{HasCallCause}
 use Rattle.volume_contract.specs.Ends.{device_of}
 use Rattle.volume_contract.specs.Order.{Comes, IsLookUp, CallStep}
 use Rattle.volume_contract.specs.State.{GoesOn, Known, Leaves, Stands, State, downs_for, is_worn}
-use Rattle.volume_turns.specs.Commands.{Because, HasWrittenBy, IsStatusFrom, KeepsState, MayLose, MayReply, may_write, most_written}
+use Rattle.volume_turns.specs.Commands.{Because, HasWrittenBy, IsStatusFrom, KeepsState, MayLose, MayReply, TouchesBy, most_written}
 use Rattle.volume_turns.specs.Did.{Did}
 use Rattle.volume_turns.specs.Numbers.{GoesUp}
 use Rattle.volume_turns.specs.Reasons.{IsUpTo}
@@ -108,7 +108,7 @@ module _ {D S : Type 0} (M : Ghosts D) (state : S → State) (holds : S → Moun
     abbrev DoesSo : Result Reply Fault → Type 0
     DoesSo r = M.honest now → (k : Known) → Stands state holds old k (M.now before) → Does state holds command old new k (M.now before) (M.now now) r
 
-    module _ (rest : M.honest now → Touches (may_write command (state old)) (M.now before) (M.now now)) (still : KeepsState command (state old) (state new)) (numbers : GoesUp 1 (state old) (state new)) where
+    module _ (rest : M.honest now → TouchesBy command (state old) (M.now before) (M.now now)) (still : KeepsState command (state old) (state new)) (numbers : GoesUp 1 (state old) (state new)) where
       -- ---- it is answered
 
       pub answered_did : (a : Reply) → (state old).down ≡ None → GoesOn None (state old) (state new) → WritesDisk M None (Stays state holds old) before now → IsStatusFrom command (reply_status a)

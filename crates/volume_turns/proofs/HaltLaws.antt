@@ -23,7 +23,7 @@ use Rattle.fsd_runs.specs.Runs.{changes_in, forced_in, said_in}
 use Rattle.volume_contract.specs.State.{Known, forced_of}
 use Rattle.volume_turns.specs.declared.turns.Halt.TheVariants.{Fault as Stopped}
 use Rattle.volume_turns.specs.Line.{EndsWith, is_unsaid}
-use Rattle.volume_turns.specs.Turns.{EndsAtOnce, InRun, Said, SaysAll, FaultTold, Undone}
+use Rattle.volume_turns.specs.Turns.{EndsAtOnce, InRun, Said, SaysAll, FaultToldBy, Undone}
 use Rattle.volume_turns.specs.Whole.{Halted, UnderWay}
 use Rattle.volume_turns.proofs.LineLaws.{at_once_ends, next_fault, none_of_input}
 use Rattle.volume_turns.proofs.TurnLaws.{now_held}
@@ -195,12 +195,12 @@ module _ {D : Type 0} (M : Ghosts D) (request : Request) (before : Report) (k : 
 
 -- ---- a fault that ends a run at once
 
-module _ {D T : Type 0} (M : Ghosts D) (request : Request) (before : Report) (k : Known) (turns : List Turn) (a m b : D) (moments : StopsOnly M a m (InRun k (forced_of k) turns (M.now a))) (why : Fault) (halted : Halted M k why turns a m)
-    (short : AreShort (M.now m).windows) (ends : EndIn (M.now a).windows k.windows) (at_m : IsTimed M m) (at_b : IsTimed M b) (once : EndsAtOnce why) (told : FaultTold {T = T} before (M.report m) (Err (Stopped why)))
+module _ {longer : Bool} {D T : Type 0} (M : Ghosts D) (request : Request) (before : Report) (k : Known) (turns : List Turn) (a m b : D) (moments : StopsOnly M a m (InRun k (forced_of k) turns (M.now a))) (why : Fault) (halted : Halted M k why turns a m)
+    (short : AreShort (M.now m).windows) (ends : EndIn (M.now a).windows k.windows) (at_m : IsTimed M m) (at_b : IsTimed M b) (once : EndsAtOnce why) (told : FaultToldBy longer {T = T} before (M.report m) (Err (Stopped why)))
     (status : ℕ) (says : LeavesDisk M false (is_unsaid status) (Utters (fault_text why)) m b) (honest : M.honest b) (ended : EndsWith why (M.now m) (M.now b) status) where
   outside : (said : Fault) → EndsAtOnce said → said ≡ why → IsOutside request before (M.report b) said
   outside (Ends.Device s) at_once is =
-      let fault : FaultTold {T = T} before (M.report m) (Err (Stopped (Ends.Device s))) = subst (λ (x : Fault). FaultTold {T = T} before (M.report m) (Err (Stopped x))) (sym is) told in
+      let fault : FaultToldBy longer {T = T} before (M.report m) (Err (Stopped (Ends.Device s))) = subst (λ (x : Fault). FaultToldBy longer {T = T} before (M.report m) (Err (Stopped x))) (sym is) told in
       record { rose = subst (λ (n : ℕ). Rose before.disk_faults n) (sym says.spares.disk) fault.disk.rose; told = fault.disk.told ∙ sym says.spares.place }
   outside Ends.Memory at_once is = tt
   outside said at_once is = absurd at_once

@@ -53,9 +53,13 @@ pub fault_unhealed : (why : Fault) (status : ℕ) → IsStatusFor why status →
 fault_unhealed why status (inl gives) is = fault_unanswered why (subst (λ (n : ℕ). IsTrue (is_of_answer n)) gives is)
 fault_unhealed why status (inr six) is = let unheard : IsTrue (is_of_answer 6) = subst (λ (n : ℕ). IsTrue (is_of_answer n)) six is in cc unheard
 
+-- nor is an output that failed an answer
+pub unheard_unhealed : IsTrue (is_of_answer 6) → ⊥
+unheard_unhealed of = cc of
+
 -- ---- over a mounted volume
 
--- an upgrade is none
+-- an upgrade is none, and no growth
 pub upgrade_heals : (r : Result ℕ Halt) → IfOk r (λ status. ⊤)
 upgrade_heals (Ok status) = tt
 upgrade_heals (Err end) = tt

@@ -28,6 +28,7 @@ pub mod InputLaws
 pub mod LastLaws
 pub mod LineLaws
 pub mod LoadingLaws
+pub mod LongerLaws
 pub mod LookedLaws
 pub mod LookingLaws
 pub mod ListLaws
@@ -43,6 +44,7 @@ pub mod QuietLaws
 pub mod ReadLaws
 pub mod ReadingLaws
 pub mod ReasonLaws
+pub mod RelaidLaws
 pub mod RestoreLaws
 pub mod RestoreOutLaws
 pub mod RestoreTakingLaws

@@ -11,7 +11,6 @@ use Rattle.sector_disk.specs.declared.machine.Machine.{Ghosts}
 use Rattle.sector_disk.specs.declared.sector.WeakRun.{WeakRun}
 use Rattle.sector_disk.specs.Image.{AllWorn, open_damage, AreShort, IsWorn, Windows}
 use Rattle.sector_disk.specs.Machine.{Moment, LeavesOnly, Wears}
-use Rattle.sector_disk.proofs.CallLaws.{writes_more}
 use Rattle.sector_disk.proofs.Lags.{held_by, shows_of, stops_by}
 use Rattle.sector_disk.proofs.Moments.{started, then_on, leaves_more}
 use Rattle.sector_disk.proofs.Wear.{AllWorn-worn, worn_refl}
@@ -37,7 +36,7 @@ use Rattle.fsd_runs.proofs.SessionLaws.{command_grows}
 use Rattle.fsd_runs.specs.Errands.{Turn, errand_alone, blank}
 use Rattle.fsd_table.specs.Table.{Telling}
 use Rattle.fsd_files.specs.Disk.{Image, Sectors, in_runs}
-use Rattle.fsd_runs.specs.Runs.{Goes, forced_in, changes_in}
+use Rattle.fsd_runs.specs.Runs.{Goes, StoodAt, forced_in, changes_in}
 use Rattle.volume_turns.specs.declared.turns.Halt.{Halt}
 use Rattle.volume_turns.specs.declared.turns.Halt.TheVariants.{Fault as Stopped, Output}
 use Rattle.sector_disk.specs.Calls.{IsHeld, IsTimed, Since, StopsOnly, WritesDisk, stops}
@@ -47,14 +46,13 @@ use Rattle.volume_contract.specs.Ends.{Closes}
 use Rattle.volume_turns.specs.Once.{Anything, close_fault, InClose, SaysClosedBy, EndsClosedBy, ClosesAndSays, ClosesAndSaysBy, IsDone, EndsAlone, IsAlone, SaysRooted, Unclosed, unit_of}
 use Rattle.volume_contract.specs.Order.{IsDeviceRefusal}
 use Rattle.volume_contract.specs.State.{State, Ages, Known, volume_of, forced_of, Stands, Leaves, is_worn, none_open}
-use Rattle.volume_turns.specs.Seats.{IsAnsweredIn, Seated, SitsAt, StaysIn, seated, session_in}
+use Rattle.volume_turns.specs.Seats.{IsAnsweredIn, Seated, SitsAt, seated, session_in}
 use Rattle.volume_turns.specs.Steps.{Does, IsAnswered, Stays, StaysSoundFor}
 use Rattle.volume_turns.specs.Turns.{InRun, EndsAtOnce, OnDisk, SaysAll, Unsaid, UttersBehind, turn_by}
 use Rattle.volume_turns.proofs.TurnLaws.{in_part, in_saying_at, says_nothing, stays_held, stays_stops}
-use Rattle.volume_turns.proofs.RunLaws.{step_is}
-use Rattle.volume_turns.proofs.SeatLaws.{none_holds, plain_answered, seat_on, stays_in}
-use Rattle.volume_turns.specs.Generate.{silent}
-use Rattle.volume_turns.proofs.CountLaws.{never}
+use Rattle.volume_turns.proofs.RunLaws.{stepped}
+use Rattle.volume_turns.proofs.SeatLaws.{none_holds, plain_answered, seat_on}
+use Rattle.volume_turns.proofs.LongerLaws.{Wrote}
 
 -- ---- the end of a volume
 
@@ -249,7 +247,7 @@ module _ {S D : Type 0} (state : S → State) (has : S → Mounted → List Plac
     (short : (m : D) → M.honest m → AreShort (M.now m).windows)
     (timed : (m : D) → M.honest m → IsTimed M m)
     (command : Command) (v w : S) (a m b : D) (k : Known) (none : k.opened ≡ none_open) (stood : Stands state has v k (M.now a)) (on : OnDisk M k (forced_of k) a)
-    (fault : Option ℕ) (disk : WritesDisk M fault (Stays state has v) a m) (honest : M.honest m) (since : Since M m b) where
+    (disk : Wrote M (Stays state has v) a m) (honest : M.honest m) (since : Since M m b) where
   same : Ages (M.now a) (M.now a)
   same = record { image = worn_refl (open_damage (M.now a).windows) (M.now a).image; windows = refl }
 
@@ -262,11 +260,8 @@ module _ {S D : Type 0} (state : S → State) (has : S → Mounted → List Plac
   sits : SitsAt state has (v, no_desk) idle (M.now a)
   sits = sits_fresh state has k v (M.now a) none stood
 
-  desk_disk : WritesDisk M fault (StaysIn state has (v, no_desk)) a m
-  desk_disk = writes_more disk (λ h left stays. stays_in state has (v, no_desk) (M.now a) left stays)
-
   at_a : IsTimed M a
-  at_a = timed a (disk.trust.honest honest)
+  at_a = timed a (disk.back honest)
 
   at_m : IsTimed M m
   at_m = timed m honest
@@ -332,7 +327,11 @@ module _ {S D : Type 0} (state : S → State) (has : S → Mounted → List Plac
     status_same = ap (λ (r : Reply). reply_status r) reply_same
 
     goes : (t : ℕ) → t ≤ M.moment a → Goes (in_runs k.windows) (M.left_since b t) Anything (errand_alone command) (M.now a).said (M.now a).image (session_in idle) (is_in.met ∷ []) (plain ∷ [])
-    goes t le = ((M.now m).image, step_is state has M wears short timed silent never plain (v, no_desk) (w, no_desk) a m b idle (forced_of k) (M.now a) sits same sits fault desk_disk honest since on later reply is_in later_sits t le, tt)
+    goes t le =
+        let late = (disk.any_moment honest).later in
+        let before_m : t ≤ M.moment m = omega (arith, le, late) in
+        let passed : StoodAt (M.left_since b t) (M.now a).said (M.now m).image = record { moment = M.now m; passed = since t (M.now m) before_m (at_m.history.sooner t (M.moment m) (M.now m) before_m at_m.here); image = refl; so_far = disk.quiet honest } in
+        ((M.now m).image, stepped state has plain (v, no_desk) (w, no_desk) idle (M.now a) (M.now a) (M.now m) sits same later reply is_in later_sits (M.left_since b t) (M.now a).said passed, tt)
 
     -- its reply is said behind what has these changes, all of them forced
     module _ (n : Known) (layout : n.mounted.volume.layout ≡ k.mounted.volume.layout) (windows : n.windows ≡ k.windows) (changes : n.changes ≡ k.changes ++ turn.changes) (telling : telling_of (volume_of n) ≡ telling_of (volume_of after)) where

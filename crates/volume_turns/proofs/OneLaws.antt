@@ -1,5 +1,5 @@
 -- What one command leaves, from the mounted volume to the last line.
-use Rattle.std.proofs.Common.{◌≡◌, inl, inr, false, ℕ, ◌≤◌, List, [], ◌∷◌, ◌++◌, length, take, None, refl, sym, ◌∙◌, ap, arith}
+use Rattle.std.proofs.Common.{◌≡◌, inl, inr, false, ℕ, Bool, ◌≤◌, List, [], ◌∷◌, ◌++◌, length, take, None, refl, sym, ◌∙◌, ap, arith}
 use Rattle.std.specs.Prelude.{⊤, IsSome, Result, Ok, Err, slice_get}
 use Rattle.std.proofs.lemmas.List.{append-nil}
 use Rattle.fsd_files.specs.Volume.{Volume}
@@ -27,7 +27,7 @@ use Rattle.volume_turns.specs.declared.turns.Halt.{Halt}
 use Rattle.volume_turns.specs.declared.turns.Halt.TheVariants.{Fault as Stopped, Output}
 use Rattle.volume_turns.specs.Line.{EndsWith, is_unsaid}
 use Rattle.volume_turns.specs.Once.{Anything, IsAlone, SaysRooted, Unanswered}
-use Rattle.volume_turns.specs.Turns.{FaultTold}
+use Rattle.volume_turns.specs.Turns.{FaultToldBy}
 use Rattle.volume_turns.specs.Whole.{Halted, RunsOut}
 use Rattle.volume_turns.proofs.GroupLaws.{goes_wider}
 use Rattle.volume_turns.proofs.HaltLaws.{broken_ends, broken_moments}
@@ -94,7 +94,7 @@ module _ {D : Type 0} (M : Ghosts D) (c : Command) (rest : List ℕ) (k : Known)
   went one t le = let later = one.moments.later in
       goes_wider (in_runs k.windows) (M.left_since p t) (M.left_since b t) (λ x was. since t x (omega (arith, le, later)) was) Anything (IsCutAt None) (λ v i is. tt) (errand_alone c) (M.now a).said (M.now a).image (session_over (volume_of k)) one.mets (Plain c ∷ []) (one.goes t le)
 
-  pub one_broken : M.honest b → AreShort (M.now p).windows → EndIn (M.now a).windows k.windows → (M.now p).windows ≡ (M.now a).windows → IsTimed M p → IsTimed M b → (why : Fault) → IsAlone M c k a p (Err (Stopped why)) → {T : Type 0} → FaultTold {T = T} (M.report a) (M.report p) (Err (Stopped why))
+  pub one_broken : M.honest b → AreShort (M.now p).windows → EndIn (M.now a).windows k.windows → (M.now p).windows ≡ (M.now a).windows → IsTimed M p → IsTimed M b → (why : Fault) → IsAlone M c k a p (Err (Stopped why)) → {longer : Bool} {T : Type 0} → FaultToldBy longer {T = T} (M.report a) (M.report p) (Err (Stopped why))
       → (status : ℕ) → LeavesDisk M false (is_unsaid status) (Utters (fault_text why)) p b → EndsWith why (M.now p) (M.now b) status → RunsOut M (One c) [] rest (M.report a) k a b status
   one_broken honest short ends windows at_p at_b why one told status says ended =
       let turns = turns_of (errand_alone c) one.mets (session_over (volume_of k)) in
@@ -134,7 +134,7 @@ module _ {D : Type 0} (M : Ghosts D) (c : Command) (rest : List ℕ) (k : Known)
     rooted = one_rooted M k (one_end c k one.mets) a b one.rooted;
   }
 
-  pub one_unsaid : {T : Type 0} → IsAlone M c k a b (Err Output) → FaultTold {T = T} (M.report a) (M.report b) (Err Output) → RunsOut M (One c) [] rest (M.report a) k a b 6
+  pub one_unsaid : {longer : Bool} {T : Type 0} → IsAlone M c k a b (Err Output) → FaultToldBy longer {T = T} (M.report a) (M.report b) (Err Output) → RunsOut M (One c) [] rest (M.report a) k a b 6
   one_unsaid one told = record {
     cut = None;
     may = tt;

@@ -1,4 +1,4 @@
--- A command that is read from a script or made up is no scrub and no upgrade.
+-- A command that is read from a script or made up is no scrub, no upgrade and no growth.
 use Rattle.std.proofs.Common.{◌≡◌, ℕ, ◌+◌, false, List, ◌∷◌, ◌++◌, Option, Some, None, Ok, refl, subst}
 use Rattle.std.specs.Prelude.{IfOk, Result}
 use Rattle.fsd_texts.specs.declared.bad_line.Cause.{Cause}
@@ -11,7 +11,7 @@ use Rattle.fsd_texts.specs.Script.{Script, script_from}
 use Rattle.fsd_runs.proofs.OtherLaws.{AreOthers, AreOthersIn, GivesOther, IsOther, IsOtherIn, command_other, made_others, script_others}
 use Rattle.script_text.specs.Making.{Making, made_left}
 use Rattle.script_text.specs.Reading.{AnswersScript, IsSpelledCommand, Reading, room_of, script_left, unless_ended}
-use Rattle.volume_turns.specs.Steps.{is_upgrade, is_upgrade_in}
+use Rattle.volume_turns.specs.Steps.{is_alone, is_alone_in}
 
 unless_others : (end : Option End) (s : Script) → AreOthersIn s.0 → AreOthersIn (unless_ended end s).0
 unless_others None s others = others
@@ -34,11 +34,12 @@ made_other old new command is =
 pub spelled_other : (command : ScriptCommand) → IsSpelledCommand (Ok (Some command)) → IsOtherIn command
 spelled_other command is = subst (λ (r : Result (ScriptCommand × List ℕ) Cause). IfOk r GivesOther) is.2 (command_other is.0)
 
-pub not_upgrade : (command : Command) → IsOther command → is_upgrade command ≡ false
-not_upgrade Word.Scrub other = absurd other
-not_upgrade Word.Upgrade other = absurd other
-not_upgrade command other = refl
+pub not_alone : (command : Command) → IsOther command → is_alone command ≡ false
+not_alone Word.Scrub other = absurd other
+not_alone Word.Upgrade other = absurd other
+not_alone (Word.Grow sectors) other = absurd other
+not_alone command other = refl
 
-pub not_upgrade_in : (command : ScriptCommand) → IsOtherIn command → is_upgrade_in command ≡ false
-not_upgrade_in (Plain command) other = not_upgrade command other
-not_upgrade_in (OfClient c call) other = refl
+pub not_alone_in : (command : ScriptCommand) → IsOtherIn command → is_alone_in command ≡ false
+not_alone_in (Plain command) other = not_alone command other
+not_alone_in (OfClient c call) other = refl

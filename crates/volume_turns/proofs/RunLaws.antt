@@ -76,6 +76,25 @@ pub earlier_in : (may : ℕ → Bool) (i j k : Image) → IsWorn may i j → (s 
 earlier_in may i j k worn s (Plain command) met find = find_earlier may i j k worn s.volume command met find
 earlier_in may i j k worn s (OfClient c call) met find = call_earlier may i j k worn s.clients c call met find
 
+-- a command that is answered so, from an earlier moment on
+module _ {S : Type 0} (state : S → State) (has : S → Mounted → List Placed → Type 0) (command : ScriptCommand) (v w : S × List Client) (k : Seated) (from a m : Moment) (stood_from : SitsAt state has v k from) (aged : Ages from a)
+    (after : Seated) (reply : Reply) (is : IsAnsweredIn command (state v.0) k after a.image m.image reply) (stands : SitsAt state has w after m) where
+  after_is : session_in after ≡ (answer_in is.met (session_in k) command).1
+  after_is = sym (ap (λ (o : Reply × Session). o.1) is.is)
+
+  pub stepped : (Passed : Moment → Type 0) (said : List ℕ) → StoodAt Passed said m.image → IsStep (in_runs k.windows) Passed said from.image m.image (session_in k) command is.met
+  stepped Passed said passed = record {
+    kept = stood_from.stands.disk.described.kept;
+    tells = mounted_tells k.mounted k.windows k.changes (forced_of (known_of k)) from.image stood_from.stands.disk;
+    unworn = λ may worn. let so = worn_state state has v.0 (known_of k) from stood_from.stands worn in let not_so = is.unworn may in cc (so, not_so);
+    exit = passed;
+    may = record {
+      find = earlier_in (open_damage from.windows) from.image a.image m.image aged.image (session_in k) command is.met.met is.find;
+      reach = subst (λ (x : Session). HasReach x.volume) after_is (mounted_reach after.mounted after.windows after.changes (forced_of (known_of after)) m.image stands.stands.disk);
+      hold = subst (λ (x : Session). HoldsRead x) after_is is.hold;
+    };
+  }
+
 module _ {S D : Type 0} (state : S → State) (has : S → Mounted → List Placed → Type 0) (M : Ghosts D)
     (wears : (s : S) (k : Known) (old new : Moment) → AreShort old.windows → Ages old new → Stands state has s k old → Stands state has s k new)
     (short : (m : D) → M.honest m → AreShort (M.now m).windows)
@@ -122,18 +141,8 @@ module _ {S D : Type 0} (state : S → State) (has : S → Mounted → List Plac
           let on : t ≤ M.moment m = omega (arith, le, later) in
           record { moment = M.now m; passed = since t (M.now m) on (at_m.history.sooner t (M.moment m) (M.now m) on at_m.here); image = refl; so_far = disk.quiet honest }
 
-      pub step_is : (t : ℕ) → t ≤ M.moment a → IsStep (in_runs k.windows) (M.left_since b t) (M.now a).said from.image (M.now m).image (session_in k) command is.met
-      step_is t le = record {
-        kept = stood_from.stands.disk.described.kept;
-        tells = mounted_tells k.mounted k.windows k.changes (forced_of (known_of k)) from.image stood_from.stands.disk;
-        unworn = λ may worn. let so = worn_state state has v.0 (known_of k) from stood_from.stands worn in let not_so = is.unworn may in cc (so, not_so);
-        exit = passed t le;
-        may = record {
-          find = earlier_in (open_damage from.windows) from.image (M.now a).image (M.now m).image aged.image (session_in k) command is.met.met is.find;
-          reach = subst (λ (x : Session). HasReach x.volume) session_is (mounted_reach after.mounted after.windows after.changes (forced_of (known_of after)) (M.now m).image stands.stands.disk);
-          hold = subst (λ (x : Session). HoldsRead x) session_is is.hold;
-        };
-      }
+      step_is : (t : ℕ) → t ≤ M.moment a → IsStep (in_runs k.windows) (M.left_since b t) (M.now a).said from.image (M.now m).image (session_in k) command is.met
+      step_is t le = stepped state has command v w k from (M.now a) (M.now m) stood_from aged after reply is stands (M.left_since b t) (M.now a).said (passed t le)
 
       -- a command that keeps the layout
       module _ (layout : (state w.0).layout ≡ (state v.0).layout) where

@@ -13,8 +13,9 @@ use Rattle.volume_turns.specs.declared.turns.Halt.TheVariants.{Fault as Stopped}
 use Rattle.volume_turns.specs.Group.{is_worn_end}
 use Rattle.volume_turns.specs.Steps.{IsOfCall, device_told}
 use Rattle.volume_turns.specs.Once.{SaysForcedOver}
-use Rattle.volume_turns.specs.Turns.{KeepsCalls, SaysText, Speaks}
+use Rattle.volume_turns.specs.Turns.{FaultToldBy, KeepsCalls, SaysText, Speaks, SpeaksBy}
 use Rattle.volume_turns.proofs.CountLaws.{told_all, told_end, told_more, told_worn_out}
+use Rattle.volume_turns.proofs.LongerLaws.{keeps_before, keeps_same}
 use Rattle.volume_turns.proofs.RunLaws.{later_on, since_on, told_done, told_fault}
 use Rattle.volume_turns.proofs.SyncLaws.{none_up_to, once_up_to, syncs_behind, syncs_more, syncs_then, writes_up_to}
 
@@ -31,8 +32,8 @@ module _ {D T : Type 0} {M : Ghosts D} where
   }
 
   -- behind a call that was done
-  pub speaks_behind : {R : Moment → Moment → Type 0} {most : ℕ} {a m b : D} {result : Result T Halt} → WritesDisk M None R a m → Speaks M most m b result → Speaks M most a b result
-  speaks_behind {R} {most} {a} {m} {b} {result} disk s = record {
+  pub speaks_behind : {longer : Bool} {R : Moment → Moment → Type 0} {most : ℕ} {a m b : D} {result : Result T Halt} → WritesDisk M None R a m → SpeaksBy longer M most m b result → SpeaksBy longer M most a b result
+  speaks_behind {longer} {R} {most} {a} {m} {b} {result} disk s = record {
     told = told_more (M.report a) (M.report m) (M.report b) tt result (told_done (M.report a) (M.report m) disk.uses disk.faults) s.told;
     fault = s.fault;
     ledger = λ t. syncs_behind most (M.ledger a) (M.ledger m) (M.ledger b) (disk.ledger (s.trust.tells t)) (s.ledger t);
@@ -53,9 +54,9 @@ module _ {D T : Type 0} {M : Ghosts D} where
   }
 
   -- memory was refused before any call
-  pub speaks_none : {most : ℕ} (a : D) → Speaks {T = T} M most a a (Err (Stopped Ends.Memory))
-  speaks_none {most} a = record {
-    told = record { sectors = refl; disk = (refl, refl); input = refl; later = omega arith; output = refl };
+  pub speaks_none : {longer : Bool} {most : ℕ} (a : D) → SpeaksBy longer {T = T} M most a a (Err (Stopped Ends.Memory))
+  speaks_none {longer} {most} a = record {
+    told = record { sectors = keeps_same longer (M.report a).sectors (M.report a).sectors refl; disk = (refl, refl); input = refl; later = omega arith; output = refl };
     fault = tt;
     ledger = λ t. none_up_to most (M.ledger a);
     trust = record { tells = λ t. t; honest = λ h. h };
@@ -100,10 +101,10 @@ speaks_keeps s = record { honest = s.trust.honest; since = s.since; later = s.la
 
 -- what is handed on
 module _ {D T U : Type 0} {M : Ghosts D} {a b : D} where
-  pub speaks_done : {most : ℕ} (t : T) (u : U) → Speaks M most a b (Ok t) → Speaks M most a b (Ok u)
+  pub speaks_done : {longer : Bool} {most : ℕ} (t : T) (u : U) → SpeaksBy longer M most a b (Ok t) → SpeaksBy longer M most a b (Ok u)
   speaks_done t u s = record { told = told_all (M.report a) (M.report b) t u s.told; fault = tt; ledger = s.ledger; trust = s.trust; since = s.since; later = s.later }
 
-  pub speaks_ended : {most : ℕ} (end : Halt) → Speaks {T = T} M most a b (Err end) → Speaks {T = U} M most a b (Err end)
+  pub speaks_ended : {longer : Bool} {most : ℕ} (end : Halt) → SpeaksBy longer {T = T} M most a b (Err end) → SpeaksBy longer {T = U} M most a b (Err end)
   speaks_ended end s = record { told = told_end (M.report a) (M.report b) end s.told; fault = s.fault; ledger = s.ledger; trust = s.trust; since = s.since; later = s.later }
 
 -- ---- all is forced, and that is said

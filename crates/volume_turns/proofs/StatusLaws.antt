@@ -27,10 +27,11 @@ use Rattle.volume_turns.specs.Line.{IsStatusAs, IsStatusFor, is_unsaid}
 use Rattle.volume_turns.specs.Once.{end_by_mount}
 use Rattle.fsd_runs.proofs.StatusLaws.{of_reply, one_has}
 use Rattle.volume_turns.specs.Script.{Heard, SparesWanting}
-use Rattle.volume_turns.specs.Status.{CountsRun, CountsTaking, IsMadeStatus, IsOneStatus, IsPutStatus, IsScriptStatus, IsStatusBroken, is_unfailed, is_quiet}
+use Rattle.volume_turns.specs.Status.{CountsRun, CountsRunBy, CountsTaking, IsMadeStatus, IsOneStatus, IsPutStatus, IsScriptStatus, IsStatusBroken, is_unfailed, is_quiet}
 use Rattle.volume_turns.specs.Commands.{IsStatusFrom}
 use Rattle.volume_turns.specs.Steps.{IsOfCall, IsOfVolume, device_told, ended_by, read_ended_by}
-use Rattle.volume_turns.specs.Turns.{IsWant, FaultTold}
+use Rattle.volume_turns.specs.Turns.{IsWant, FaultTold, FaultToldBy}
+use Rattle.volume_turns.proofs.LongerLaws.{keeps_before, keeps_behind, keeps_same}
 use Rattle.volume_turns.proofs.QuietLaws.{unfailed_not, unfailed_said, quiet_wants, quiet_unfailed, quiet_line, quiet_not}
 
 -- ---- replies
@@ -172,9 +173,9 @@ module _ (a m b : Report) (status : ℕ) (spares : SparesDisk false (is_unsaid s
   disk_unfailed (Ends.Device s) disk (inr six) unfailed = absurd (unfailed_not 6 status refl unfailed six)
   disk_unfailed why disk for unfailed = spares.disk ∙ disk.0
 
-  pub fault_counts : {T : Type 0} (why : Fault) → FaultTold {T = T} a m (Err (Stopped why)) → IsStatusFor why status → CountsRun a b status
-  fault_counts why told for = record {
-    sectors = spares.sectors ∙ told.sectors;
+  pub fault_counts : {longer : Bool} {T : Type 0} (why : Fault) → FaultToldBy longer {T = T} a m (Err (Stopped why)) → IsStatusFor why status → CountsRunBy longer a b status
+  fault_counts {longer} why told for = record {
+    sectors = keeps_before longer a.sectors m.sectors b.sectors told.sectors spares.sectors;
     disk = λ four. disk_counted why told.disk four for;
     input = spares.input ∙ told.input;
     output = output_counted told.later;
@@ -246,14 +247,14 @@ counts_untaken takes a m b status why other none read spares for = record {
     said is = subst (λ (c : Bool). Counts c m.output_faults b.output_faults) is spares.output ∙ read.output
 
 -- where the output failed
-pub unsaid_counts : {T : Type 0} (a b : Report) → FaultTold {T = T} a b (Err Output) → CountsRun a b 6
+pub unsaid_counts : {longer : Bool} {T : Type 0} (a b : Report) → FaultToldBy longer {T = T} a b (Err Output) → CountsRunBy longer a b 6
 unsaid_counts a b told = record { sectors = told.sectors; disk = λ four. absurd (omega (arith, four)); input = told.input; output = λ six. told.output; quiet = λ unfailed. absurd (unfailed_not 6 6 refl unfailed refl) }
 
 pub script_unsaid_counts : (a b : Report) → Heard {T = Stop} a b (Err Output) → CountsTaking a b 6
 script_unsaid_counts a b heard = record { sectors = heard.sectors; disk = λ four. absurd (omega (arith, four)); output = λ six. heard.output; quiet = λ quiet. absurd (quiet_not 6 6 refl quiet refl); unfailed = λ unfailed. absurd (unfailed_not 6 6 refl unfailed refl) }
 
 -- where a reply is said
-pub counts_said : (command : Command) (a b : Report) (status : ℕ) → IsStatusFrom command status → FaultTold {T = ℕ} a b (Ok status) → CountsRun a b status
+pub counts_said : {longer : Bool} (command : Command) (a b : Report) (status : ℕ) → IsStatusFrom command status → FaultToldBy longer {T = ℕ} a b (Ok status) → CountsRunBy longer a b status
 counts_said command a b status from told = record {
   sectors = told.sectors;
   disk = λ four. absurd (from_not 4 command status (omega arith) (λ e. omega (arith, e)) from four);
@@ -298,9 +299,9 @@ fails_behind a m b old mid uses writes (inr long) = inr (subst (λ (x : List ℕ
 
 -- ---- behind a mount, or by its fault
 
-pub counts_after : (a m b : Report) (status : ℕ) → UsesDisk a m → DiskFaults None a m → CountsRun m b status → CountsRun a b status
-counts_after a m b status uses none counts = record {
-  sectors = counts.sectors ∙ uses.sectors;
+pub counts_after : {longer : Bool} (a m b : Report) (status : ℕ) → UsesDisk a m → DiskFaults None a m → CountsRunBy longer m b status → CountsRunBy longer a b status
+counts_after {longer} a m b status uses none counts = record {
+  sectors = keeps_behind longer a.sectors m.sectors b.sectors uses.sectors counts.sectors;
   disk = λ four. subst (λ (n : ℕ). Rose n b.disk_faults) none.0 (counts.disk four);
   input = counts.input ∙ uses.input;
   output = λ six. subst (λ (n : ℕ). Rose n b.output_faults) uses.output (counts.output six);
@@ -337,11 +338,11 @@ pub same_device : (fault : MountFault) → device_of_mount fault ≡ device_told
 same_device Refused.NotVolume = refl
 same_device fault = refl
 
-pub mount_counts : (a m b : Report) (status : ℕ) → SparesDisk false (is_unsaid status) m b → (fault : MountFault) → UsesDisk a m → DiskFaults (device_of_mount fault) a m → IsStatusFor (end_by_mount fault) status → CountsRun a b status
-mount_counts a m b status spares fault uses faults for =
+pub mount_counts : {longer : Bool} (a m b : Report) (status : ℕ) → SparesDisk false (is_unsaid status) m b → (fault : MountFault) → UsesDisk a m → DiskFaults (device_of_mount fault) a m → IsStatusFor (end_by_mount fault) status → CountsRunBy longer a b status
+mount_counts {longer} a m b status spares fault uses faults for =
     let output = uses.output in
-    fault_counts a m b status spares {T = ℕ} (end_by_mount fault) (record {
-      sectors = uses.sectors;
+    fault_counts a m b status spares {longer = longer} {T = ℕ} (end_by_mount fault) (record {
+      sectors = keeps_same longer a.sectors m.sectors uses.sectors;
       disk = subst (λ (o : Option ℕ). DiskFaults o a m) (same_device fault) faults;
       input = uses.input;
       later = omega (arith, output);

@@ -146,6 +146,7 @@ forced_asked (Plain (Word.Get key)) i may = absurd may
 forced_asked (Plain Word.Stat) i may = absurd may
 forced_asked (Plain Word.Scrub) i may = absurd may
 forced_asked (Plain Word.Upgrade) i may = absurd may
+forced_asked (Plain (Word.Grow sectors)) i may = absurd may
 forced_asked (OfClient c call) i may = absurd (call_unforced c call i may)
 
 counts_asked : CountsForced is_forced asks_force

@@ -48,7 +48,8 @@ use Rattle.volume_turns.specs.Turns.{OnDisk, SaysAll, Unsaid, UttersBehind}
 use Rattle.volume_turns.specs.Upgrade.{EndsState, is_upgraded}
 use Rattle.volume_turns.proofs.AnsweringLaws.{alone_closed, closed_by}
 use Rattle.volume_turns.proofs.NumberLaws.{goes_none}
-use Rattle.volume_turns.proofs.OnceLaws.{alone_closed_as, alone_held, says_closed}
+use Rattle.volume_turns.proofs.LongerLaws.{Wrote}
+use Rattle.volume_turns.proofs.RelaidLaws.{relaid_alone, relaid_sound}
 use Rattle.volume_turns.proofs.CallLaws.{met_none}
 
 -- ---- a volume that was just mounted
@@ -86,8 +87,7 @@ device_fails s t why is fails = absurd is
 
 kind_kept : (s t : State) (kind : Kind) (why : Refusal) → KeepsRefused (Test (layout_is s kind) ∷ Roots ∷ []) why s t → ((why ≡ Why.LayoutIs 2) × (kind ≡ Three) × (t ≡ s)) ⊎ FailsRoots s t why
 kind_kept s t Two why (inl here) = absurd (cc here.0)
-kind_kept s t Two why (inr (passes, inl roots)) = inr (device_fails s t why roots.0 roots.1)
-kind_kept s t Two why (inr (passes, inr none)) = absurd none
+kind_kept s t Two why (inr (passes, roots)) = inr (device_fails s t why roots.0 roots.1)
 kind_kept s t Three why (inl here) = inl (cc here.0, refl, here.1)
 kind_kept s t Three why (inr (passes, later)) = absurd (cc passes)
 
@@ -162,7 +162,7 @@ module _ {S D : Type 0} (state : S → State) (has : S → Mounted → List Plac
     (short : (m : D) → M.honest m → AreShort (M.now m).windows)
     (timed : (m : D) → M.honest m → IsTimed M m)
     (v w : S) (a m b : D) (k : Known) (none : k.opened ≡ none_open) (forced : (volume_of k).unforced ≡ 0) (stood : Stands state has v k (M.now a)) (on : OnDisk M k (forced_of k) a)
-    (fault : Option ℕ) (disk : WritesDisk M fault (Stays state has v) a m) (honest : M.honest m) (since : Since M m b)
+    (disk : Wrote M (Stays state has v) a m) (honest : M.honest m) (since : Since M m b)
     (two : (state v).layout.kind ≡ Two) (three : state w ≡ with_three (state v)) (roots : RootsStand (state w) (M.now m)) (does : Does state has Word.Upgrade v w k (M.now a) (M.now m) (Ok Said.Upgraded)) where
   abbrev l : Layout
   l = (volume_of k).layout
@@ -170,11 +170,8 @@ module _ {S D : Type 0} (state : S → State) (has : S → Mounted → List Plac
   abbrev after : Known
   after = does.0
 
-  exit : StaysSoundFor k (M.now a) (M.now m)
-  exit = disk.exit honest k stood
-
   sound : IsSound l k.windows k.changes (length k.changes) (M.now m).image
-  sound = subst (λ (n : ℕ). IsSound l k.windows k.changes n (M.now m).image) (let n : forced_of k ≡ length k.changes = omega (arith, forced) in n) exit.sound
+  sound = relaid_sound state has M v a m k forced stood disk honest
 
   -- it is the volume with the layout turned
   turned_is : with_kind Three l ≡ turned l
@@ -186,9 +183,6 @@ module _ {S D : Type 0} (state : S → State) (has : S → Mounted → List Plac
   same_layout : (volume_of after).layout ≡ turned l
   same_layout = ap (λ (x : Volume). x.layout) (sym volume_is) ∙ turned_is
 
-  telling : telling_of (volume_of k) ≡ telling_of (volume_of after)
-  telling = ap telling_of volume_is
-
   says_at : (s : ℕ) → IsRootAt l sound.readable.roots.other (M.now m).image s → Has (open_damage (M.now m).windows) (M.now m).image (root_bytes (state w).layout) s → sector_at (M.now m).image s ≡ Whole (root_bytes (turned l))
   says_at s root stands =
       let same : (state w).layout ≡ turned l = ap (λ (x : State). x.layout) three ∙ ap (λ (x : Layout). with_kind Three x) (sym stood.fits.layout) ∙ turned_is in
@@ -198,27 +192,14 @@ module _ {S D : Type 0} (state : S → State) (has : S → Mounted → List Plac
   says = ⊎_elim (λ root. inl (says_at 0 root roots.first)) (λ root. inr (says_at 4 root roots.second)) sound.readable.roots.some
 
   -- nothing is logged, so its table is told in either form
-  lasts : AllWorn (weak_of k.windows) (λ j. told l j ≡ Some (telling_of (volume_of k))) (M.now m).image
-  lasts j worn =
-      let unforced : (volume_of after).unforced ≡ 0 = ap (λ (x : Volume). x.unforced) (sym volume_is) ∙ forced in
-      let worn_after = subst (λ (ws : List WeakRun). IsWorn (weak_of ws) (M.now m).image j) (sym does.1.windows) worn in
-      let by_turned : told (turned l) j ≡ told l j = ap (option_and_then told_in) (shown_turned l j ((sound.readable.either (turned l) (inl refl) says).empty refl j worn)) in
-      sym by_turned ∙ ap (λ (x : Layout). told x j) (sym same_layout) ∙ mounted_lasts after.mounted after.windows after.changes (forced_of after) (M.now m).image does.2.disk unforced j worn_after ∙ ap (λ (x : Telling). Some x) (sym telling)
-
-  ends_in : EndIn (M.now m).windows k.windows
-  ends_in = subst (λ (x : Windows). EndIn x k.windows) (sym (disk.windows honest)) stood.ends
-
-  -- its roots are those of the volume with the layout turned
-  own_roots : HasOwnRoots (volume_of after).layout (weak_of k.windows) (M.now m).image
-  own_roots = subst (λ (ws : List WeakRun). HasOwnRoots (volume_of after).layout (weak_of ws) (M.now m).image) does.1.windows does.2.disk.over.own.roots
+  alike : (j : Image) → IsWorn (weak_of k.windows) (M.now m).image j → told (volume_of after).layout j ≡ told l j
+  alike j worn = ap (λ (x : Layout). told x j) same_layout ∙ ap (option_and_then told_in) (shown_turned l j ((sound.readable.either (turned l) (inl refl) says).empty refl j worn))
 
   pub upgraded_alone : (text : List ℕ) → text ≡ reply_alone Said.Upgraded → M.honest b → LeavesOnly M.moment M.left_since m b (UttersBehind true text (M.now m)) → (r : Result ℕ Halt) → (r ≡ Err (Stopped Ends.Memory) → b ≡ m) → IfOk r (λ status. status ≡ 0)
       → OnOk (unit_of r) (SaysAll text (M.now m) (M.now b)) → OnOk (unit_of r) ((M.now m).time ≤ (M.now b).synced) → IfErr (unit_of r) (λ end. Unsaid (M.now m) (M.now b) end) → IsAlone M Word.Upgrade k a b r
   upgraded_alone text is honest_b run r undone gives all synced unsaid =
-      let held = alone_held state has M wears short timed Word.Upgrade v w a m b k none stood on fault disk honest since in
-      let closes = says_closed M m b k (forced_of k) (volume_of after).layout text ends_in sound lasts own_roots (short m honest) held (timed m honest) (timed b honest_b) since run (unit_of r) all synced unsaid in
-      alone_closed_as state has M wears short timed Word.Upgrade v w a m b k none stood on fault disk honest since after Said.Upgraded does.1 does.2 k refl refl (sym (append-nil k.changes)) telling r undone gives
-      (subst (λ (x : List ℕ). ClosesAndSaysBy (volume_of after).layout M k (forced_of k) x m b (unit_of r)) is closes)
+      relaid_alone state has M v a m k forced stood disk honest wears short timed Word.Upgrade (λ x. refl) Said.Upgraded w b none on since does (ap (λ (x : Volume). x.unforced) (sym volume_is) ∙ forced) (ap telling_of volume_is) alike
+      text is honest_b run r undone gives all synced unsaid
 
 -- what it says and writes, whatever the image
 pub upgraded_answers : (s t : State) (a m b : Moment) → m.windows ≡ a.windows → m.said ≡ a.said → MayAnswer Word.Upgrade s t a m (Ok Said.Upgraded) → Ages m b → (r : Result ℕ Halt) → IfOk r (λ status. status ≡ 0) → SaysBy (reply_alone Said.Upgraded) m b (unit_of r)

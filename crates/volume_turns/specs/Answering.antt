@@ -17,7 +17,7 @@ use Rattle.volume_turns.specs.declared.turns.Halt.{Halt}
 use Rattle.volume_turns.specs.declared.turns.Halt.TheVariants.{Fault as Stopped, Output}
 use Rattle.volume_turns.specs.Numbers.{GoesUp}
 use Rattle.volume_turns.specs.Steps.{IsToldOn}
-use Rattle.volume_turns.specs.Commands.{KeepsState, MayLose, MayReply, WritesBehind, may_write}
+use Rattle.volume_turns.specs.Commands.{KeepsState, MayLose, MayReply, TouchesBy, WritesBehind}
 use Rattle.volume_turns.specs.Turns.{KeepsSaid}
 
 -- ---- one command, step by step
@@ -25,7 +25,7 @@ use Rattle.volume_turns.specs.Turns.{KeepsSaid}
 -- It is answered, or a fault has ended it.
 pub record MayAnswer (command : Command) (s t : State) (old new : Moment) (result : Result Reply Fault) : Type 0 where
   pub replies : IfOk result (λ a. MayReply command new.image a)
-  pub rest : Touches (may_write command s) old new
+  pub rest : TouchesBy command s old new
   pub still : KeepsState command s t
   -- a mount is told as worn out only where it is
   pub worn : result ≡ Err Ends.WornOut → IsTrue (is_worn s)
@@ -62,7 +62,7 @@ pub record AnswersAlone (command : Command) (s : State) (old new : Moment) (resu
   pub windows : new.windows ≡ old.windows
   pub quiet : KeepsSaid old new result
   pub replies : s.dirty ≡ [] → IfOk result (SaysReply command old new)
-  pub rest : s.dirty ≡ [] → Touches (may_write command s) old new
+  pub rest : s.dirty ≡ [] → TouchesBy command s old new
   pub worn : result ≡ Err (Stopped Ends.WornOut) → IsTrue (is_worn s)
   pub told : (why : Fault) → result ≡ Err (Stopped why) → IsToldOn (MayLose command) s.layout new.image why
 
@@ -86,7 +86,7 @@ SaysOne command old new status = SaysReply command old new status ⊎ SaysNoRepl
 pub record EndsOne (command : Command) (s : State) (old new : Moment) (status : ℕ) : Type 0 where
   pub windows : new.windows ≡ old.windows
   pub says : SaysOne command old new status
-  pub rest : Touches (may_write command s) old new
+  pub rest : TouchesBy command s old new
 
 -- ---- from the mount on
 

@@ -10,7 +10,7 @@ use Rattle.sector_disk.specs.declared.sector.Sector.TheVariants.{Damaged}
 use Rattle.sector_disk.specs.Image.{sector_at}
 use Rattle.sector_disk.specs.Machine.{Ledger, Moment}
 use Rattle.fsd_files.specs.Answers.{keep_given, least_pages, size_fault}
-use Rattle.fsd_files.specs.Disk.{Image, Sectors, Touches, nowhere}
+use Rattle.fsd_files.specs.Disk.{Image, Sectors, Touches, TouchesLonger, nowhere}
 use Rattle.fsd_files.specs.declared.reply.Reply.{Reply}
 use Rattle.fsd_files.specs.declared.reply.Reply.TheVariants as Said
 use Rattle.fsd_sound.specs.Writes.{force_writes}
@@ -25,7 +25,7 @@ use Rattle.volume_contract.specs.State.{Ages, State, change_len, force_len, put_
 use Rattle.scrub.specs.Scrub.{scrub_writes}
 use Rattle.scrub.specs.Telling.{AreOfPage, StandTwice}
 use Rattle.volume_turns.specs.Causes.{HasVolume}
-use Rattle.volume_turns.specs.Reasons.{BecauseCalled, BecauseDeleted, BecauseListed, BecauseLoaded, BecauseMoved, BecauseRead, BecauseScrubbed, BecauseUpgraded, HasScrubbed, HasWritten}
+use Rattle.volume_turns.specs.Reasons.{BecauseCalled, BecauseDeleted, BecauseGrown, BecauseListed, BecauseLoaded, BecauseMoved, BecauseRead, BecauseScrubbed, BecauseUpgraded, HasScrubbed, HasWritten}
 
 -- ---- refusals
 
@@ -59,6 +59,12 @@ RefusesMove Why.NoSuch = ⊤
 RefusesMove Why.VersionsUsedUp = ⊤
 RefusesMove (Why.NameTableFull free) = free < least_pages
 RefusesMove why = ⊥
+
+-- a growth to so many sectors: the volume has as many, or may not have so many
+abbrev pub RefusesGrowth : (sectors : ℕ) → Refusal → Type 0
+RefusesGrowth sectors (Why.NotLarger asked) = asked ≡ sectors
+RefusesGrowth sectors (Why.PastMost most) = most < sectors
+RefusesGrowth sectors why = ⊥
 
 -- ---- replies
 
@@ -100,6 +106,9 @@ MayReply Word.Scrub i reply = ⊥
 MayReply Word.Upgrade i Said.Upgraded = ⊤
 MayReply Word.Upgrade i (Said.Refused why) = why ≡ Why.LayoutIs 2
 MayReply Word.Upgrade i reply = ⊥
+MayReply (Word.Grow sectors) i (Said.Grown n free) = n ≡ sectors
+MayReply (Word.Grow sectors) i (Said.Refused why) = RefusesGrowth sectors why
+MayReply (Word.Grow sectors) i reply = ⊥
 
 -- the status of a reply to it is one of these
 abbrev pub IsStatusFrom : Command → ℕ → Type 0
@@ -118,11 +127,18 @@ may_write Word.Force s = force_writes s.layout
 may_write Word.Tick s = force_writes s.layout
 may_write Word.Scrub s = scrub_writes s.layout
 may_write Word.Upgrade s = is_root
+may_write (Word.Grow sectors) s = is_root
 -- by default nowhere
 may_write command s = nowhere
 
--- a command that only reads leaves the volume's state, and so does a scrub where no page waits; behind an upgrade the same
--- pages wait
+-- it has written there alone; a growth may also have given the image more sectors
+abbrev pub TouchesBy : Command → State → (old new : Moment) → Type 0
+TouchesBy (Word.Grow sectors) s old new = TouchesLonger (may_write (Word.Grow sectors) s) old new
+-- by default there are as many as before
+TouchesBy command s old new = Touches (may_write command s) old new
+
+-- a command that only reads leaves the volume's state, and so does a scrub where no page waits; behind an upgrade or a
+-- growth the same pages wait
 abbrev pub KeepsState : Command → State → State → Type 0
 KeepsState (Word.Put name bytes keep) s t = ⊤
 KeepsState (Word.Delete key) s t = ⊤
@@ -133,6 +149,7 @@ KeepsState Word.Force s t = ⊤
 KeepsState Word.Tick s t = ⊤
 KeepsState Word.Scrub s t = s.dirty ≡ [] → t ≡ s
 KeepsState Word.Upgrade s t = t.dirty ≡ s.dirty
+KeepsState (Word.Grow sectors) s t = t.dirty ≡ s.dirty
 -- by default it stays
 KeepsState command s t = t ≡ s
 
@@ -140,8 +157,9 @@ KeepsState command s t = t ≡ s
 abbrev pub WritesForce : (sectors : ℕ) → (old mounted new : Moment) → Type 0
 WritesForce sectors old mounted new = Ages mounted new ⊎ ((volume : HasVolume sectors old) × Touches (force_writes volume.layout) mounted new)
 
--- What is written behind the mount: nothing by a command that only reads; by an upgrade only the roots; by another that
--- makes no version, only where a force writes, and by a scrub also roots and in the data area.
+-- What is written behind the mount: nothing by a command that only reads; by an upgrade only the roots, and by a growth
+-- these, and the image may get more sectors; by another that makes no version, only where a force writes, and by a scrub
+-- also roots and in the data area.
 abbrev pub WritesBehind : Command → (sectors : ℕ) → (old mounted new : Moment) → Type 0
 WritesBehind (Word.Put name bytes keep) sectors old mounted new = ⊤
 WritesBehind (Word.Delete key) sectors old mounted new = WritesForce sectors old mounted new
@@ -152,6 +170,7 @@ WritesBehind Word.Force sectors old mounted new = WritesForce sectors old mounte
 WritesBehind Word.Tick sectors old mounted new = WritesForce sectors old mounted new
 WritesBehind Word.Scrub sectors old mounted new = Ages mounted new ⊎ ((volume : HasVolume sectors old) × Touches (scrub_writes volume.layout) mounted new)
 WritesBehind Word.Upgrade sectors old mounted new = Touches is_root mounted new
+WritesBehind (Word.Grow n) sectors old mounted new = TouchesLonger is_root mounted new
 -- by default nothing
 WritesBehind command sectors old mounted new = Ages mounted new
 
@@ -167,6 +186,7 @@ most_written Word.Force s = force_len s
 most_written Word.Tick s = force_len s
 most_written Word.Scrub s = force_len s
 most_written Word.Upgrade s = 2
+most_written (Word.Grow sectors) s = 2
 -- by default none
 most_written command s = 0
 
@@ -201,6 +221,7 @@ module _ {S : Type 0} (state : S → State) (resident : S → ℕ → Option (Li
   Because Word.Stat s t old new reply = ⊤
   Because Word.Scrub s t old new reply = BecauseScrubbed s new reply
   Because Word.Upgrade s t old new reply = BecauseUpgraded s t new reply
+  Because (Word.Grow sectors) s t old new reply = BecauseGrown sectors s t new reply
 
   -- so it is of a script's command
   abbrev pub BecauseIn : ScriptCommand → (s t : State) → (old new : Moment) → Reply → Type 0

@@ -7,6 +7,7 @@ pub mod Dumping
 pub mod Each
 pub mod Generate
 pub mod Group
+pub mod Grow
 pub mod Healing
 pub mod Last
 pub mod Line

@@ -1,13 +1,15 @@
 -- Why a command by itself is answered so, and how much it has written, whatever the image.
-use Rattle.std.specs.Prelude.{◌≡◌, ◌⊎◌, ⊤, ℕ, ◌+◌, ◌≤◌, List, [], ◌∷◌, length, Option, Some, None, Result, Ok, Err}
+use Rattle.std.specs.Prelude.{◌≡◌, ◌⊎◌, ⊤, ℕ, ◌+◌, ◌<◌, ◌≤◌, List, [], ◌∷◌, length, Option, Some, None, Result, Ok, Err}
 use Rattle.std.specs.List.{AllByRecursion}
 use Rattle.fsd_bytes.specs.declared.key.Key.{Key}
 use Rattle.fsd_bytes.specs.declared.pattern.Pattern.{Pattern}
 use Rattle.fsd_bytes.specs.declared.refusal.Refusal.TheVariants as Why
 use Rattle.fsd_formats.specs.declared.entry.Entry.{Entry}
 use Rattle.volume_layout.specs.declared.kind.Kind.TheVariants.{Two, Three}
-use Rattle.volume_layout.specs.Layout.{with_kind}
+use Rattle.volume_layout.specs.Layout.{most_of, with_kind}
+use Rattle.run_table.specs.RunTable.{total}
 use Rattle.fsd_table.specs.Table.{Visit}
+use Rattle.fsd_files.specs.Answers.{grow_fault}
 use Rattle.fsd_files.specs.Disk.{Image, Sectors}
 use Rattle.fsd_files.specs.Files.{File}
 use Rattle.fsd_files.specs.Kept.{IsWhole, KeptIn, range_sectors}
@@ -21,6 +23,7 @@ use Rattle.fsd_sound.specs.Lookups.{HasKey, HasNext, LacksKey, LacksLater}
 use Rattle.fsd_table.specs.Reached.{ReachesPage, HasEntry}
 use Rattle.volume_contract.specs.Causes.{IsTaken, ShowsOfPages}
 use Rattle.volume_contract.specs.Ends.{IsLater}
+use Rattle.volume_contract.specs.Growth.{grown_state}
 use Rattle.volume_contract.specs.Healing.{TwinsStand}
 use Rattle.volume_contract.specs.State.{Ages, State, force_len}
 use Rattle.volume_contract.specs.Upgrade.{RootsStand}
@@ -60,6 +63,18 @@ abbrev pub BecauseUpgraded : (s t : State) → (new : Moment) → Reply → Type
 BecauseUpgraded s t new Said.Upgraded = (s.layout.kind ≡ Two) × (t.layout ≡ with_kind Three s.layout) × RootsStand t new
 BecauseUpgraded s t new (Said.Refused why) = s.layout.kind ≡ Three
 BecauseUpgraded s t new reply = ⊤
+
+-- ---- how many sectors it has
+
+-- it had fewer and may have so many; both roots say so many now, and so many of them are free
+abbrev pub HasGrownTo : (sectors free : ℕ) → (s t : State) → (new : Moment) → Type 0
+HasGrownTo sectors free s t new = (s.layout.sectors < sectors) × (sectors ≤ most_of s.layout) × (t ≡ grown_state sectors s) × RootsStand t new × (free ≡ total t.free)
+
+-- so it is, or this keeps it from growing
+abbrev pub BecauseGrown : (sectors : ℕ) → (s t : State) → (new : Moment) → Reply → Type 0
+BecauseGrown sectors s t new (Said.Grown n free) = HasGrownTo sectors free s t new
+BecauseGrown sectors s t new (Said.Refused why) = grow_fault s.layout sectors ≡ Some why
+BecauseGrown sectors s t new reply = ⊤
 
 -- ---- what the pages that were read show
 

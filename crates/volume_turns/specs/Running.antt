@@ -1,5 +1,5 @@
 -- What a run over an image does from the mount to its last line, and what it leaves of a sound one.
-use Rattle.std.specs.Prelude.{◌≡◌, ◌≤◌, ◌+◌, List, [], ℕ, length, IsTrue}
+use Rattle.std.specs.Prelude.{◌≡◌, ◌≤◌, ◌+◌, Bool, false, List, [], ℕ, length, IsTrue}
 use Rattle.volume_layout.specs.declared.layout.Layout.{Layout}
 use Rattle.sector_disk.specs.declared.machine.Machine.{Ghosts}
 use Rattle.sector_disk.specs.Calls.{IsHeld, Since}
@@ -12,7 +12,7 @@ use Rattle.fsd_runs.specs.declared.request.Request.{Request}
 use Rattle.volume_contract.specs.Mount.{IsSoundAt}
 use Rattle.volume_turns.specs.Causes.{FailsInput, Front, SaysFaultAt, SaysOfCall, SaysOfInput, is_of_fault}
 use Rattle.volume_turns.specs.Each.{SaysBadLine, SaysForced}
-use Rattle.volume_turns.specs.Status.{CountsRun, CountsTaking}
+use Rattle.volume_turns.specs.Status.{CountsRunBy, CountsTaking}
 use Rattle.volume_turns.specs.Syncs.{SyncsUpTo}
 
 -- Its status is one of these; a machine that tells, or is honest, behind it was so before; and where the status is that
@@ -30,9 +30,13 @@ pub record EndsMounted {D : Type 0} (M : Ghosts D) (IsStatus : ℕ → Type 0) (
 -- ---- the input
 
 -- It asks for nothing but writes and one sync, and what is counted is as its status says.
-pub record TakesNothing {D : Type 0} (M : Ghosts D) (a b : D) (result : ℕ) : Type 0 where
+pub record TakesNothingBy (longer : Bool) {D : Type 0} (M : Ghosts D) (a b : D) (result : ℕ) : Type 0 where
   pub ledger : M.tells b → SyncsUpTo 1 (M.ledger a) (M.ledger b)
-  pub counts : CountsRun (M.report a) (M.report b) result
+  pub counts : CountsRunBy longer (M.report a) (M.report b) result
+
+-- and it keeps the image's length
+abbrev pub TakesNothing : {D : Type 0} → (M : Ghosts D) → (a b : D) → (result : ℕ) → Type 0
+TakesNothing M a b result = TakesNothingBy false M a b result
 
 -- It takes input and attaches nothing, and over a machine that is so it does so many syncs at most; what is counted is as its
 -- status says, and at 5 the input has failed or is too long, and this is said.

@@ -1,5 +1,5 @@
 -- The status of a run, over any machine.
-use Rattle.std.specs.Prelude.{◌≡◌, ◌⊎◌, ◌≤◌, ◌==◌, ◌||◌, not, ℕ, Bool, [], ◌∷◌, IsTrue}
+use Rattle.std.specs.Prelude.{◌≡◌, ◌⊎◌, ◌≤◌, ◌==◌, ◌||◌, not, ℕ, Bool, false, [], ◌∷◌, IsTrue}
 use Rattle.std.specs.List.{list_any}
 use Rattle.sector_disk.specs.Machine.{Report, Rose}
 use Rattle.fsd_texts.specs.declared.command.Command.{Command}
@@ -7,6 +7,7 @@ use Rattle.fsd_texts.specs.declared.fault.Fault.{Fault}
 use Rattle.fsd_runs.specs.Errands.{fault_status}
 use Rattle.volume_turns.specs.Steps.{IsOfVolume}
 use Rattle.volume_turns.specs.Commands.{IsStatusFrom}
+use Rattle.volume_turns.specs.Turns.{KeepsSectors}
 
 -- ---- which statuses there are
 
@@ -68,12 +69,16 @@ is_unfailed status = not (status == 4 || status == 6)
 
 -- A run that takes no input: where its status tells a fault of the disk or of the output, this is counted, and where it
 -- tells no call of the outside none is.
-pub record CountsRun (old new : Report) (status : ℕ) : Type 0 where
-  pub sectors : new.sectors ≡ old.sectors
+pub record CountsRunBy (longer : Bool) (old new : Report) (status : ℕ) : Type 0 where
+  pub sectors : KeepsSectors longer old.sectors new.sectors
   pub disk : status ≡ 4 → Rose old.disk_faults new.disk_faults
   pub input : new.input_faults ≡ old.input_faults
   pub output : status ≡ 6 → Rose old.output_faults new.output_faults
   pub quiet : IsTrue (is_unfailed status) → CountsNone old new
+
+-- so it is of one that keeps the image's length
+abbrev pub CountsRun : (old new : Report) → (status : ℕ) → Type 0
+CountsRun old new status = CountsRunBy false old new status
 
 -- One that takes the input: so it is of the disk and the output.
 -- A fault found in the volume may end one whose input has failed.

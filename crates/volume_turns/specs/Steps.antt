@@ -26,15 +26,21 @@ use Rattle.volume_contract.specs.State.{State, Known, volume_of, forced_of, Stan
 
 -- ---- which command it is
 
--- an upgrade asks for more of the volume than the others
-abbrev pub is_upgrade : Command → Bool
-is_upgrade Word.Upgrade = true
-is_upgrade other = false
+-- an upgrade and a growth give the volume another layout: nothing is asked for behind them in a run
+abbrev pub is_alone : Command → Bool
+is_alone Word.Upgrade = true
+is_alone (Word.Grow sectors) = true
+is_alone other = false
 
 -- so it is of a script's command
-abbrev pub is_upgrade_in : ScriptCommand → Bool
-is_upgrade_in (Plain command) = is_upgrade command
-is_upgrade_in (OfClient c call) = false
+abbrev pub is_alone_in : ScriptCommand → Bool
+is_alone_in (Plain command) = is_alone command
+is_alone_in (OfClient c call) = false
+
+-- a growth may give the image more sectors
+abbrev pub may_grow : Command → Bool
+may_grow (Word.Grow sectors) = true
+may_grow other = false
 
 -- ---- how a refusal is answered
 

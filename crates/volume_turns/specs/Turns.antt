@@ -1,5 +1,5 @@
 -- Commands one after another over a mounted volume, each with its reply said: what a stop leaves, and how they end.
-use Rattle.std.specs.Prelude.{◌≡◌, ◌⊎◌, ⊤, Bool, ℕ, suc, ◌+◌, ◌≤◌, List, ◌∷◌, ◌++◌, length, take, slice_get, Option, None, Result, Ok, Err, IfErr, IsTrue}
+use Rattle.std.specs.Prelude.{◌≡◌, ◌⊎◌, ⊤, Bool, true, false, ℕ, suc, ◌+◌, ◌≤◌, List, ◌∷◌, ◌++◌, length, take, slice_get, Option, None, Result, Ok, Err, IfErr, IsTrue}
 use Rattle.volume_layout.specs.declared.layout.Layout.{Layout}
 use Rattle.fsd_log.specs.Scan.{Placed}
 use Rattle.std.specs.List.{flat_map, list_any}
@@ -227,13 +227,22 @@ abbrev pub Unheard : {T : Type 0} → Report → Report → Result T Halt → Ty
 Unheard old new (Err Output) = Rose old.output_faults new.output_faults
 Unheard old new result = new.output_faults ≡ old.output_faults
 
+-- as many sectors are told as before, or where the image may have got more no fewer
+abbrev pub KeepsSectors : (longer : Bool) → (old new : ℕ) → Type 0
+KeepsSectors false old new = new ≡ old
+KeepsSectors true old new = old ≤ new
+
 -- Of a run of commands the fault that ends it is counted, and no other of the disk.
-pub record FaultTold {T : Type 0} (old new : Report) (result : Result T Halt) : Type 0 where
-  pub sectors : new.sectors ≡ old.sectors
+pub record FaultToldBy (longer : Bool) {T : Type 0} (old new : Report) (result : Result T Halt) : Type 0 where
+  pub sectors : KeepsSectors longer old.sectors new.sectors
   pub disk : DiskFaults (device_end result) old new
   pub input : new.input_faults ≡ old.input_faults
   pub later : old.output_faults ≤ new.output_faults
   pub output : Unheard old new result
+
+-- so it is of one that keeps the image's length
+abbrev pub FaultTold : {T : Type 0} → (old new : Report) → Result T Halt → Type 0
+FaultTold old new result = FaultToldBy false old new result
 
 -- What a text that is said asks for and keeps: where it is to stand behind a sync that sync, else no sync, and nothing
 -- beside.
@@ -247,13 +256,17 @@ pub record SaysText {D T : Type 0} (M : Ghosts D) (syncs : Bool) (a b : D) (resu
 -- What commands over a mounted volume, with what is said of them, ask for and keep: the end of the volume is told as it is
 -- counted, and is one of a call of it or of the output; nothing is asked for but writes and so many syncs at most; a machine
 -- that tells, or is honest, behind them was so before; what a stop might have left before it might leave still.
-pub record Speaks {D T : Type 0} (M : Ghosts D) (most : ℕ) (a b : D) (result : Result T Halt) : Type 0 where
-  pub told : FaultTold (M.report a) (M.report b) result
+pub record SpeaksBy (longer : Bool) {D T : Type 0} (M : Ghosts D) (most : ℕ) (a b : D) (result : Result T Halt) : Type 0 where
+  pub told : FaultToldBy longer (M.report a) (M.report b) result
   pub fault : IfErr result IsEndOfVolume
   pub ledger : M.tells b → SyncsUpTo most (M.ledger a) (M.ledger b)
   pub trust : Trusts (M.tells a) (M.tells b) (M.honest a) (M.honest b)
   pub since : M.honest b → Since M a b
   pub later : M.honest b → M.moment a ≤ M.moment b
+
+-- so it is of those that keep the image's length
+abbrev pub Speaks : {D T : Type 0} → (M : Ghosts D) → (most : ℕ) → (a b : D) → Result T Halt → Type 0
+Speaks M most a b result = SpeaksBy false M most a b result
 
 -- What the rest of the machine's calls keep.
 pub record KeepsCalls {D : Type 0} (M : Ghosts D) (a b : D) : Type 0 where

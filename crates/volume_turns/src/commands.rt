@@ -9,7 +9,7 @@ ghost use Rattle.fsd_texts.specs.declared.command.Command.TheVariants as Word;
 ghost use Rattle.sector_disk.specs.Calls.{OnlyReads};
 ghost use Rattle.volume_contract.specs.State.{Known, Stands, volume_of};
 ghost use Rattle.volume_turns.specs.Did.{Did, TellsAnswer};
-ghost use Rattle.volume_turns.specs.Steps.{Does, device_by, is_upgrade};
+ghost use Rattle.volume_turns.specs.Steps.{Does, device_by, is_alone};
 
 use crate::answer::{ended_by, read_ended_by};
 use crate::listing::list;
@@ -200,7 +200,7 @@ fn first_bytes(key: &Key, mut bytes: Vec<u8>, count: u32) -> Reply
     }
 }
 
-/// Does one command that is no upgrade.
+/// Does one command that is no upgrade and no growth.
 pub(crate) fn answer<M: Machine, V: Files<M>>(
     alloc: Global,
     v: &mut V,
@@ -209,7 +209,7 @@ pub(crate) fn answer<M: Machine, V: Files<M>>(
 ) -> Result<Reply, Fault>
     requires room { (V.state v.old).layout.sectors ≤ (M.report m.old).sectors }
     requires up { (V.state v.old).down ≡ None }
-    requires other { is_upgrade c.now ≡ false }
+    requires other { is_alone c.now ≡ false }
     ensures { Did M.Machine V.state V.holds V.resident c.now v.old v.new m.old m.new result }
 {
     match c {

@@ -15,7 +15,7 @@ ghost use Rattle.volume_turns.specs.Once.{ClosesAndSays, SaysForcedOver, unit_of
 ghost use Rattle.volume_turns.specs.Running.{EndsMounted, EndsRun, LeavesOver, TakesNothing, TellsMounted};
 ghost use Rattle.volume_turns.specs.Seats.{KeepsSeat};
 ghost use Rattle.volume_turns.specs.Status.{IsMadeStatus};
-ghost use Rattle.volume_turns.specs.Steps.{is_upgrade};
+ghost use Rattle.volume_turns.specs.Steps.{is_alone};
 ghost use Rattle.volume_turns.specs.Commands.{MayLose};
 ghost use Rattle.volume_turns.specs.Tally.{nothing_done};
 ghost use Rattle.volume_turns.specs.Turns.{OnDisk, Speaks, WantsNone};
@@ -43,7 +43,7 @@ fn do_counted<M: Machine, V: Files<M>>(
     requires room { (V.state v.old).layout.sectors ≤ (M.report m.old).sectors }
     requires up { (V.state v.old).down ≡ None }
     requires idle { IsDesk (V.state v.old) no_desk }
-    requires other { is_upgrade c.now ≡ false }
+    requires other { is_alone c.now ≡ false }
     requires few { tally.now.count < 2 ^ 32 - 1 }
     ensures keeps { KeepsSeat (V.state v.old) (V.state v.new) no_desk result }
     ensures speaks { Speaks M.Machine 0 m.old m.new result }

@@ -7,12 +7,13 @@ ghost use Rattle.volume_turns.specs.Commands.{IsStatusFrom};
 ghost use Rattle.volume_turns.specs.Healing.{HealsAlone, IfScrub};
 ghost use Rattle.volume_contract.specs.State.{Known, Stands, is_worn, none_open, volume_of, forced_of};
 ghost use Rattle.volume_contract.specs.Upgrade.{is_fresh};
-ghost use Rattle.volume_turns.specs.Steps.{is_upgrade};
+ghost use Rattle.volume_turns.specs.Steps.{is_alone, may_grow};
 ghost use Rattle.fsd_texts.specs.declared.fault.Fault.TheVariants as Ends;
 ghost use Rattle.volume_turns.specs.declared.turns.Halt.TheVariants.{Fault as Stopped};
-ghost use Rattle.volume_turns.specs.Turns.{OnDisk, Speaks, WantsNone};
+ghost use Rattle.volume_turns.specs.Turns.{OnDisk, Speaks, SpeaksBy, WantsNone};
 
 use crate::commands;
+use crate::grow::grow_alone;
 use crate::line::say_forced;
 use crate::turns::{Halt, Says};
 use crate::upgrade::upgrade_alone;
@@ -104,7 +105,7 @@ pub fn alone<M: Machine, V: Files<M> + Drop, T: Says>(
     requires unworn { is_worn (V.state v) ≡ false }
     requires fresh { IsTrue (is_fresh (V.state v)) }
     requires says { T.errand.says ≡ reply_alone }
-    ensures speaks { Speaks M.Machine 1 m.old m.new result }
+    ensures speaks { SpeaksBy (may_grow c.now) M.Machine 1 m.old m.new result }
     ensures status { IfOk result (IsStatusFrom c.now) }
     ensures answers { M.honest m.new → AnswersAlone c.now (V.state v) (M.now m.old) (M.now m.new) result }
     ensures heals { M.honest m.new → (V.state v).dirty ≡ [] → IfOk result (λ status. IfScrub c.now (HealsAlone M.Machine V.state V.holds v m.old m.new)) }
@@ -112,12 +113,12 @@ pub fn alone<M: Machine, V: Files<M> + Drop, T: Says>(
 {
     match c {
         Command::Upgrade => upgrade_alone::<M, V, T>(alloc, v, m),
-        Command::Grow(sectors) => crate::grow::grow_alone::<M, V, T>(alloc, v, m, *sectors),
+        Command::Grow(sectors) => grow_alone::<M, V, T>(alloc, v, m, *sectors),
         _ => answer_alone::<M, V, T>(alloc, v, m, c),
     }
 }
 
-// So it is of a command that is no upgrade.
+// So it is of a command that is no upgrade and no growth.
 fn answer_alone<M: Machine, V: Files<M> + Drop, T: Says>(
     alloc: Global,
     v: V,
@@ -127,7 +128,7 @@ fn answer_alone<M: Machine, V: Files<M> + Drop, T: Says>(
     requires room { (V.state v).layout.sectors ≤ (M.report m.old).sectors }
     requires up { (V.state v).down ≡ None }
     requires unworn { is_worn (V.state v) ≡ false }
-    requires other { is_upgrade c.now ≡ false }
+    requires other { is_alone c.now ≡ false }
     requires says { T.errand.says ≡ reply_alone }
     ensures speaks { Speaks M.Machine 1 m.old m.new result }
     ensures status { IfOk result (IsStatusFrom c.now) }

@@ -5,7 +5,7 @@ ghost use Rattle.client_desk.specs.Clients.{IsDesk};
 ghost use Rattle.volume_turns.specs.Calls.{AnswersIn};
 ghost use Rattle.volume_turns.specs.Commands.{BecauseIn};
 ghost use Rattle.volume_turns.specs.Seats.{DoesIn, KeepsSeat, Seated, SitsAt, StaysIn};
-ghost use Rattle.volume_turns.specs.Steps.{IsOfCall, device_by, is_upgrade_in};
+ghost use Rattle.volume_turns.specs.Steps.{IsOfCall, device_by, is_alone_in};
 
 use crate::calls::call;
 use crate::commands;
@@ -16,7 +16,7 @@ use sector_disk::Machine;
 use std::alloc::Global;
 use volume_contract::Files;
 
-/// Does one command of a script, which is no upgrade.
+/// Does one command of a script, which is no upgrade and no growth.
 pub(crate) fn answer_in<M: Machine, V: Files<M>>(
     alloc: Global,
     v: &mut V,
@@ -27,7 +27,7 @@ pub(crate) fn answer_in<M: Machine, V: Files<M>>(
     requires room { (V.state v.old).layout.sectors ≤ (M.report m.old).sectors }
     requires up { (V.state v.old).down ≡ None }
     requires desk { IsDesk (V.state v.old) desk.old }
-    requires other { is_upgrade_in c.now ≡ false }
+    requires other { is_alone_in c.now ≡ false }
     ensures keeps { KeepsSeat (V.state v.old) (V.state v.new) desk.new result }
     ensures disk { WritesDisk M.Machine (device_by result) (StaysIn V.state V.holds (v.old, desk.old)) m.old m.new }
     ensures fault { IfErr result IsOfCall }

@@ -11,7 +11,7 @@ ghost use Rattle.volume_turns.specs.Each.{SaysStep};
 ghost use Rattle.volume_turns.specs.Group.{is_worn_end};
 ghost use Rattle.volume_turns.specs.Numbers.{UsesNumbers};
 ghost use Rattle.volume_turns.specs.Seats.{KeepsSeat};
-ghost use Rattle.volume_turns.specs.Steps.{is_upgrade_in};
+ghost use Rattle.volume_turns.specs.Steps.{is_alone_in};
 ghost use Rattle.volume_turns.specs.Turns.{IsEndOn, Speaks, Steps, SaysAll, SaysText, Unsaid, UttersBehind};
 
 use crate::line::{say_bytes, say_forced};
@@ -82,7 +82,7 @@ pub(crate) fn step<M: Machine, V: Files<M>, T: Says>(
     requires room { (V.state v.old).layout.sectors ≤ (M.report m.old).sectors }
     requires up { (V.state v.old).down ≡ None }
     requires desk { IsDesk (V.state v.old) desk.old }
-    requires other { is_upgrade_in c.now ≡ false }
+    requires other { is_alone_in c.now ≡ false }
     requires lazily { (x : Meeting) (s : Session) (w : Word) → IsTrue (T.errand.forces (answer_in x s w).0) → (answer_in x s w).1.volume.unforced ≡ 0 }
     ensures keeps { KeepsSeat (V.state v.old) (V.state v.new) desk.new result }
     ensures speaks { Speaks M.Machine 1 m.old m.new result }

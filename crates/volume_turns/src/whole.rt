@@ -7,9 +7,10 @@ ghost use Rattle.fsd_runs.specs.declared.request.Request.TheVariants.{One};
 ghost use Rattle.volume_turns.specs.Answering.{RunsOne};
 ghost use Rattle.volume_turns.specs.Causes.{Nothing, TellsImage};
 ghost use Rattle.volume_turns.specs.Healing.{EndsHealed, HealsOver, IfScrub, is_of_answer};
-ghost use Rattle.volume_turns.specs.Running.{EndsRun, LeavesOver, TakesNothing, TellsMounted};
+ghost use Rattle.volume_turns.specs.Running.{EndsRun, LeavesOver, TakesNothingBy, TellsMounted};
 ghost use Rattle.volume_turns.specs.Status.{IsOneStatus};
 ghost use Rattle.volume_turns.specs.Commands.{MayLose};
+ghost use Rattle.volume_turns.specs.Steps.{may_grow};
 ghost use Rattle.volume_contract.specs.State.{Known, Stands, is_worn, none_open, volume_of, forced_of};
 ghost use Rattle.volume_contract.specs.Upgrade.{is_fresh};
 ghost use Rattle.volume_turns.specs.Whole.{RunsOut};
@@ -35,7 +36,7 @@ pub(crate) fn one_on<M: Machine, V: Files<M> + Drop, T: Says>(
     requires fresh { IsTrue (is_fresh (V.state v)) }
     requires says { T.errand.says ≡ reply_alone }
     ensures ends { EndsRun M.Machine (IsOneStatus c.now) m.old m.new result }
-    ensures takes { TakesNothing M.Machine m.old m.new result }
+    ensures takes { TakesNothingBy (may_grow c.now) M.Machine m.old m.new result }
     ensures since { M.honest m.new → Since M.Machine m.old m.new }
     ensures tells { M.honest m.new → TellsMounted Nothing (MayLose c.now) (V.state v).layout ⊥ (M.now m.old) (M.now m.new) result }
     ensures one { M.honest m.new → (V.state v).dirty ≡ [] → EndsHealed M.Machine V.state V.holds c.now v m.old m.new result }
@@ -59,7 +60,7 @@ pub fn run_one<M: Machine, V: Files<M> + Drop, T: Says>(
     requires sectors { sectors ≡ (M.report m.old).sectors }
     requires says { T.errand.says ≡ reply_alone }
     ensures ends { EndsRun M.Machine (IsOneStatus c.now) m.old m.new result }
-    ensures takes { TakesNothing M.Machine m.old m.new result }
+    ensures takes { TakesNothingBy (may_grow c.now) M.Machine m.old m.new result }
     ensures image { M.honest m.new → TellsImage Nothing (MayLose c.now) None sectors (M.now m.old) (M.now m.new) result }
     ensures one { M.honest m.new → RunsOne c.now sectors (M.now m.old) (M.now m.new) result }
     ensures healed { M.honest m.new → IsTrue (is_of_answer result) → IfScrub c.now (HealsOver M.Machine sectors m.old m.new) }

@@ -10,7 +10,7 @@ use Rattle.volume_turns.specs.declared.turns.Halt.TheVariants.{Fault as Stopped}
 use Rattle.volume_turns.proofs.CountLaws.{counted_refused}
 use Rattle.volume_turns.proofs.NumberLaws.{ended, goes_none}
 use Rattle.fsd_runs.proofs.OtherLaws.{no_scrub}
-use Rattle.volume_turns.proofs.OtherLaws.{made_other, not_upgrade}
+use Rattle.volume_turns.proofs.OtherLaws.{made_other, not_alone}
 use Rattle.volume_turns.proofs.SayLaws.{timed_by}
 use Rattle.volume_turns.proofs.ToldLaws.{end_of_page}
 use Rattle.volume_turns.proofs.SpeaksLaws.{speaks_done, speaks_ended, speaks_none, speaks_still}
@@ -35,7 +35,7 @@ returns-clause-draws g c =
 pub do_counted-requires-clause-other : goal.do_counted-requires-clause-other
 do_counted-requires-clause-other g c =
     let made : made_left c.args.maker.now ≡ c.in-Ok-Some.c ∷ made_left c.next_command.new.self = subst (λ (o : Option Word). MakesNext (Ok o) c.args.maker.now c.next_command.new.self) c.in-Ok-Some.field-0-is c.in-Ok-Some.ensures in
-    not_upgrade c.in-Ok-Some.c (made_other c.args.maker.now c.next_command.new.self c.in-Ok-Some.c made)
+    not_alone c.in-Ok-Some.c (made_other c.args.maker.now c.next_command.new.self c.in-Ok-Some.c made)
 
 -- ---- what it asks for and keeps
 

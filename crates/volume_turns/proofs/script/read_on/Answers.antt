@@ -15,7 +15,7 @@ use Rattle.volume_turns.proofs.ApartLaws.{bad_done, err_is, input_done, long_don
 use Rattle.volume_turns.proofs.ScriptLaws.{ended_so, moves_spells, none_done, none_read, one_done, one_stops}
 use Rattle.volume_turns.proofs.CauseLaws.{none_left}
 use Rattle.volume_turns.proofs.NumberLaws.{ended, goes_none}
-use Rattle.volume_turns.proofs.OtherLaws.{not_upgrade_in, read_other, spelled_other}
+use Rattle.volume_turns.proofs.OtherLaws.{not_alone_in, read_other, spelled_other}
 use Rattle.volume_turns.proofs.ReadingLaws.{reading_done, reading_ended, reading_of, reading_taken, reading_then, reading_wanted}
 use Rattle.volume_turns.proofs.SaidLaws.{no_replies, replies_then, whole_then}
 use Rattle.volume_turns.proofs.SayLaws.{timed_by}
@@ -115,7 +115,7 @@ returns-clause-reads g c t =
 pub step-requires-clause-other : goal.step-requires-clause-other
 step-requires-clause-other g c =
     let spelled = subst (λ (o : Option Word). IsSpelledCommand (Ok o)) c.in-Ok-Some.field-0-is c.in-Ok-Some.ensures.whole.spelled in
-    not_upgrade_in c.in-Ok-Some.c (spelled_other c.in-Ok-Some.c spelled)
+    not_alone_in c.in-Ok-Some.c (spelled_other c.in-Ok-Some.c spelled)
 
 -- ---- what it asks for and keeps
 

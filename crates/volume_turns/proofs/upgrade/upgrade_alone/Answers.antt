@@ -18,6 +18,7 @@ use Rattle.volume_turns.specs.Turns.{WantsNone}
 use Rattle.volume_turns.specs.Upgrade.{EndsState}
 use Rattle.volume_turns.proofs.AnsweringLaws.{says_so}
 use Rattle.volume_turns.proofs.LineLaws.{wants_not}
+use Rattle.volume_turns.proofs.LongerLaws.{wrote}
 use Rattle.volume_turns.proofs.OnceLaws.{alone_answered, alone_fault, alone_unbegun, answered_held}
 use Rattle.volume_turns.proofs.SayLaws.{timed_by}
 use Rattle.volume_turns.proofs.StatusLaws.{status_at}
@@ -52,7 +53,7 @@ returns-in-Ok-say_forced-clause-does g c h k none idle stands on =
     let because = subst (λ (x : Reply). BecauseUpgraded (V.state v) (V.state w) (M.now m) x) is (e.tells.because back) in
     let does = subst (λ (x : Reply). Does V.state V.holds Word.Upgrade v w k (M.now a) (M.now m) (Ok x)) is (e.done back k stands) in
     let timed = timed_by M g.met.M.Machine.dated g.met.M.Machine.history g.met.M.Machine.counts_now g.met.M.Machine.only_now in
-    upgraded_alone V.state V.holds M g.met.V.Files.wears (λ x honest. g.met.M.Machine.short x honest) timed v w a m b k idle none stands on _ e.disk back (say.says.since h) ends.0 ends.1 because.2 does
+    upgraded_alone V.state V.holds M g.met.V.Files.wears (λ x honest. g.met.M.Machine.short x honest) timed v w a m b k idle none stands on (wrote e.disk) back (say.says.since h) ends.0 ends.1 because.2 does
     c.as_slice.result.now (c.as_slice.ensures.value ∙ c.in-Ok.ensures ∙ ap (λ (says : Reply → List ℕ). says Said.Upgraded) c.requires.says) h (say.moments h) (Ok 0) (λ wrong. absurd (cc wrong)) refl
     (c.in-Ok-say_forced.ensures.said h) (c.in-Ok-say_forced.ensures.synced h) tt
 
@@ -98,7 +99,7 @@ returns-then-is_upgraded-clause-does g c h k none idle stands on =
     let because = subst (λ (x : Reply). BecauseUpgraded (V.state v) (V.state w) (M.now m) x) is (e.tells.because back) in
     let does = subst (λ (x : Reply). Does V.state V.holds Word.Upgrade v w k (M.now a) (M.now m) (Ok x)) is (e.done back k stands) in
     let timed = timed_by M g.met.M.Machine.dated g.met.M.Machine.history g.met.M.Machine.counts_now g.met.M.Machine.only_now in
-    upgraded_alone V.state V.holds M g.met.V.Files.wears (λ x honest. g.met.M.Machine.short x honest) timed v w a m b k idle none stands on _ e.disk back (say.says.since h) ends.0 ends.1 because.2 does
+    upgraded_alone V.state V.holds M g.met.V.Files.wears (λ x honest. g.met.M.Machine.short x honest) timed v w a m b k idle none stands on (wrote e.disk) back (say.says.since h) ends.0 ends.1 because.2 does
     c.as_slice.result.now (c.as_slice.ensures.value ∙ c.in-Ok.ensures ∙ ap (λ (says : Reply → List ℕ). says Said.Upgraded) c.requires.says) h (say.moments h) (Err end)
     (λ is. let same : end ≡ Stopped Ends.Memory = cc is in absurd (subst WantsNone same c.in-Err-say_forced.ensures.wants tt)) tt tt tt (c.in-Err-say_forced.ensures.unsaid h)
 
@@ -121,8 +122,8 @@ returns-in-Ok-upgrade-clause-does g c h k none idle stands on =
     let reply = c.in-Ok-upgrade.answer in
     let layout = ap (λ (x : State). x.layout) done.2 in
     let timed = timed_by M g.met.M.Machine.dated g.met.M.Machine.history g.met.M.Machine.counts_now g.met.M.Machine.only_now in
-    let held = answered_held V.state V.holds M g.met.V.Files.wears (λ x honest. g.met.M.Machine.short x honest) timed Word.Upgrade v w a m b k idle stands on _ e.disk back (close.speaks.since h) does.0 reply does.1 does.2 layout in
-    alone_answered V.state V.holds M g.met.V.Files.wears (λ x honest. g.met.M.Machine.short x honest) timed Word.Upgrade v w a m b k idle stands on _ e.disk back (close.speaks.since h) does.0 reply does.1 does.2 layout c.close_as.result close.undone close.status
+    let held = answered_held V.state V.holds M g.met.V.Files.wears (λ x honest. g.met.M.Machine.short x honest) timed Word.Upgrade v w a m b k idle stands on (wrote e.disk) back (close.speaks.since h) does.0 reply does.1 does.2 layout in
+    alone_answered V.state V.holds M g.met.V.Files.wears (λ x honest. g.met.M.Machine.short x honest) timed Word.Upgrade v w a m b k idle stands on (wrote e.disk) back (close.speaks.since h) does.0 reply does.1 does.2 layout c.close_as.result close.undone close.status
     (subst (λ (says : Reply → List ℕ). ClosesAndSays M does.0 (forced_of k) (says reply) m b (unit_of c.close_as.result)) c.requires.says (close.closes h does.0 (forced_of k) does.2 held))
 
 pub returns-in-Ok-upgrade-clause-status : goal.returns-in-Ok-upgrade-clause-status
@@ -142,7 +143,7 @@ returns-clause-does g c h k none idle stands on =
     let w = c.upgrade.new.v in
     let e = c.in-Err.ensures in
     let timed = timed_by M g.met.M.Machine.dated g.met.M.Machine.history g.met.M.Machine.counts_now g.met.M.Machine.only_now in
-    alone_fault V.state V.holds M g.met.V.Files.wears (λ x honest. g.met.M.Machine.short x honest) timed Word.Upgrade v w c.args.m.now c.upgrade.new.m c.upgrade.new.m k idle stands on _ e.disk h (λ t left le was. was)
+    alone_fault V.state V.holds M g.met.V.Files.wears (λ x honest. g.met.M.Machine.short x honest) timed Word.Upgrade v w c.args.m.now c.upgrade.new.m c.upgrade.new.m k idle stands on (wrote e.disk) h (λ t left le was. was)
     c.in-Err.fault (λ worn. absurd (ends_unworn (V.state v) (V.state w) c.in-Err.fault e.ends worn)) (e.done h k stands)
 
 -- ---- what it asks for and keeps

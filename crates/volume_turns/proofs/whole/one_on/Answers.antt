@@ -6,7 +6,7 @@ use Rattle.volume_turns.specs.declared.turns.Halt.TheVariants.{Fault as Stopped}
 use Rattle.volume_turns.specs.Commands.{MayLose}
 use Rattle.volume_turns.proofs.AnsweringLaws.{one_failed, one_replied, one_unheard}
 use Rattle.volume_turns.proofs.CauseLaws.{call_says}
-use Rattle.volume_turns.proofs.HealLaws.{fault_unhealed}
+use Rattle.volume_turns.proofs.HealLaws.{fault_unhealed, unheard_unhealed}
 use Rattle.volume_turns.proofs.LastLaws.{ends_fault, fault_not, reply_not, told_place}
 use Rattle.volume_turns.proofs.OneLaws.{one_broken, one_said, one_unsaid}
 use Rattle.volume_turns.proofs.RunLaws.{since_on}
@@ -107,6 +107,6 @@ returns-in-Err-Output g c =
         spent = λ nine. omega (arith, nine);
       };
       since = does.speaks.since;
-      one = λ h none. record { one = one_unheard command (g.V.Files.state c.args.v) (M.now a) (M.now b) none (does.answers h); heals = λ of. absurd (cc of) };
+      one = λ h none. record { one = one_unheard command (g.V.Files.state c.args.v) (M.now a) (M.now b) none (does.answers h); heals = λ of. absurd (unheard_unhealed of) };
       runs = λ h rest k none idle stands disk. one_unsaid M command rest k a b (does.does h k none idle stands disk) does.speaks.told;
     }

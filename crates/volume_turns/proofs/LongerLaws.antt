@@ -1,0 +1,71 @@
+-- An image that may get more sectors: how many are told, what is touched, and what a call leaves.
+use Rattle.std.proofs.Common.{◌≡◌, ◌∙◌, ℕ, Bool, Option, true, false, refl, sym, subst, arith}
+use Rattle.std.specs.Prelude.{IsFalse}
+use Rattle.sector_disk.specs.declared.machine.Machine.{Ghosts}
+use Rattle.sector_disk.specs.Calls.{GrowsDisk, Since, WritesDisk}
+use Rattle.sector_disk.specs.Image.{IsWorn, Windows, open_damage, sector_at}
+use Rattle.sector_disk.specs.Machine.{LeavesOnly, Moment}
+use Rattle.fsd_files.specs.Disk.{Sectors, SectorWorn, Touches, TouchesLonger, nowhere}
+use Rattle.fsd_texts.specs.declared.command.Command.{Command}
+use Rattle.fsd_texts.specs.declared.command.Command.TheVariants as Word
+use Rattle.scrub.proofs.LeadLaws.{touches_then, worn_then, worn_touches}
+use Rattle.volume_contract.specs.State.{State}
+use Rattle.volume_turns.specs.Commands.{TouchesBy, may_write}
+use Rattle.volume_turns.specs.Steps.{is_alone, may_grow}
+use Rattle.volume_turns.specs.Turns.{KeepsSectors}
+
+-- ---- how many are told
+
+-- one that is done among others by no run of its own
+pub never_grows : (command : Command) → is_alone command ≡ false → may_grow command ≡ false
+never_grows (Word.Grow sectors) other = absurd (cc other)
+never_grows command other = refl
+
+pub keeps_same : (longer : Bool) (a b : ℕ) → b ≡ a → KeepsSectors longer a b
+keeps_same false a b same = same
+keeps_same true a b same = omega (arith, same)
+
+-- behind what keeps them, and in front of it
+pub keeps_behind : (longer : Bool) (a m b : ℕ) → m ≡ a → KeepsSectors longer m b → KeepsSectors longer a b
+keeps_behind longer a m b same keeps = subst (λ (n : ℕ). KeepsSectors longer n b) same keeps
+
+pub keeps_before : (longer : Bool) (a m b : ℕ) → KeepsSectors longer a m → b ≡ m → KeepsSectors longer a b
+keeps_before longer a m b keeps same = subst (λ (n : ℕ). KeepsSectors longer a n) (sym same) keeps
+
+-- ---- what is touched
+
+pub then_worn : (may : Sectors) (a b c : Moment) → b.windows ≡ a.windows → Touches may a b → IsWorn (open_damage b.windows) b.image c.image → Touches may a c
+then_worn may a b c windows first worn = touches_then may may may a b c (λ s out. out) (λ s out. out) windows first (worn_touches may b c worn)
+
+pub worn_longer : (may : Sectors) (a b : Moment) → IsWorn (open_damage a.windows) a.image b.image → TouchesLonger may a b
+worn_longer may a b worn = let same = worn.size in record { size = omega (arith, same); others = λ s out. worn.each s }
+
+pub longer_then : (may : Sectors) (a b c : Moment) → b.windows ≡ a.windows → TouchesLonger may a b → Touches nowhere b c → TouchesLonger may a c
+longer_then may a b c windows first second = record {
+  size = omega (arith, first.size, second.size);
+  others = λ s out. worn_then (open_damage a.windows s) (sector_at a.image s) (sector_at b.image s) (sector_at c.image s) (first.others s out)
+      (subst (λ (w : Windows). SectorWorn (open_damage w s) (sector_at b.image s) (sector_at c.image s)) windows (second.others s refl));
+}
+
+-- by any command
+pub touched_worn : (command : Command) (s : State) (a b c : Moment) → b.windows ≡ a.windows → TouchesBy command s a b → IsWorn (open_damage b.windows) b.image c.image → TouchesBy command s a c
+touched_worn (Word.Grow sectors) s a b c windows first worn = longer_then (may_write (Word.Grow sectors) s) a b c windows first (worn_touches nowhere b c worn)
+touched_worn command s a b c windows first worn = then_worn (may_write command s) a b c windows first worn
+
+-- ---- what is left
+
+-- What a call that writes the disk leaves, whether or not the image has got more sectors.
+pub record Wrote {D : Type 0} (M : Ghosts D) (R : Moment → Moment → Type 0) (old new : D) : Type 0 where
+  pub back : M.honest new → M.honest old
+  pub quiet : M.honest new → (M.now new).said ≡ (M.now old).said
+  pub windows : M.honest new → (M.now new).windows ≡ (M.now old).windows
+  pub exit : M.honest new → R (M.now old) (M.now new)
+  pub since : M.honest new → Since M old new
+  pub any_moment : M.honest new → LeavesOnly M.moment M.left_since old new (R (M.now old))
+
+module _ {D : Type 0} {M : Ghosts D} {R : Moment → Moment → Type 0} {fault : Option ℕ} {a b : D} where
+  pub wrote : WritesDisk M fault R a b → Wrote M R a b
+  wrote w = record { back = w.trust.honest; quiet = w.quiet; windows = w.windows; exit = w.exit; since = w.since; any_moment = w.any_moment }
+
+  pub wrote_longer : GrowsDisk M fault R a b → Wrote M R a b
+  wrote_longer w = record { back = w.trust.honest; quiet = w.quiet; windows = w.windows; exit = w.exit; since = w.since; any_moment = w.any_moment }
