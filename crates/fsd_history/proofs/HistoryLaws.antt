@@ -27,7 +27,7 @@ use Rattle.fsd_sound.specs.Shown.{told}
 use Rattle.fsd_sound.specs.Sound.{EndIn, IsPrefixOf, IsSaid, IsSound, weak_of}
 use Rattle.fsd_sound.specs.Sound.{Tells as TellsAt}
 use Rattle.fsd_sound.proofs.SoundLaws.{sound_still}
-use Rattle.fsd_sound.proofs.TurnedLaws.{said_sound}
+use Rattle.fsd_sound.proofs.BesideLaws.{said_sound}
 use Rattle.fsd_sound.proofs.WindowLaws.{borne_narrow, last_snoc, open_is_weak}
 use Rattle.fsd_texts.specs.declared.fault.Fault.{Fault}
 use Rattle.fsd_texts.specs.declared.fault.Fault.TheVariants as Ended
