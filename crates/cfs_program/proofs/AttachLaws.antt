@@ -1,5 +1,5 @@
 -- A run behind its attach: over the image that was found, or by the line of the fault.
-use Rattle.std.proofs.Common.{◌≡◌, ◌⊎◌, inl, inr, ℕ, ◌+◌, ◌≤◌, false, List, ◌++◌, Option, Err, sym, ◌∙◌, ap, arith}
+use Rattle.std.proofs.Common.{◌≡◌, ◌⊎◌, inl, inr, ℕ, ◌+◌, ◌≤◌, Bool, false, List, ◌++◌, Option, Err, sym, ◌∙◌, ap, arith}
 use Rattle.std.specs.Prelude.{IsFalse, IsTrue}
 use Rattle.volume_layout.specs.declared.layout.Layout.{Layout}
 use Rattle.sector_disk.specs.declared.machine.Attach.TheVariants.{Old}
@@ -27,7 +27,7 @@ use Rattle.volume_turns.specs.Answering.{SaysNoReply}
 use Rattle.volume_turns.specs.Causes.{FailsInput, Front, SaysFaultAt, SaysOfInput, TellsImage, is_of_fault}
 use Rattle.volume_turns.specs.Healing.{HealsOver, IfScrub, WritesMounting}
 use Rattle.volume_turns.specs.Line.{EndsWith, IsStatusAs, is_unsaid}
-use Rattle.volume_turns.specs.Status.{CountsNone, CountsRun, CountsTaking}
+use Rattle.volume_turns.specs.Status.{CountsNone, CountsRunBy, CountsTaking}
 use Rattle.volume_turns.proofs.AnsweringLaws.{fault_alone}
 use Rattle.volume_turns.proofs.CauseLaws.{input_since}
 use Rattle.volume_turns.proofs.LastLaws.{ends_fault}
@@ -60,10 +60,10 @@ module _ {D : Type 0} {M : Ghosts D} {path : List ℕ} {sectors : ℕ} {a b z : 
   none_rose : CountsNone (M.report a) (M.report b)
   none_rose = record { disk = x.finds.cause.disk.stays; input = x.finds.cause.input; output = x.finds.cause.output }
 
-  pub found_counts : (status : ℕ) → CountsRun (M.report b) (M.report z) status → CountsReading (M.report a) (M.report z) status
+  pub found_counts : {longer : Bool} (status : ℕ) → CountsRunBy longer (M.report b) (M.report z) status → CountsReading (M.report a) (M.report z) status
   found_counts status counts = reading_of (M.report a) (M.report z) status (counts_opened (M.report a) (M.report b) (M.report z) status none_rose counts)
 
-  pub found_spared : (status : ℕ) → CountsRun (M.report b) (M.report z) status → (M.report z).input_faults ≡ (M.report a).input_faults
+  pub found_spared : {longer : Bool} (status : ℕ) → CountsRunBy longer (M.report b) (M.report z) status → (M.report z).input_faults ≡ (M.report a).input_faults
   found_spared status counts = counts.input ∙ none_rose.input
 
   pub found_reading : (status : ℕ) → CountsTaking (M.report b) (M.report z) status → CountsReading (M.report a) (M.report z) status

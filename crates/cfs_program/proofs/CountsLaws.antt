@@ -4,7 +4,7 @@ use Rattle.std.specs.Prelude.{IsFalse, IsTrue}
 use Rattle.std.proofs.lemmas.Bool.{eq-eqb}
 use Rattle.sector_disk.specs.Calls.{Counts, SparesDisk}
 use Rattle.sector_disk.specs.Machine.{Report, Rose}
-use Rattle.volume_turns.specs.Status.{CountsInput, CountsNone, CountsRun, CountsTaking, is_quiet, is_unfailed}
+use Rattle.volume_turns.specs.Status.{CountsInput, CountsNone, CountsRunBy, CountsTaking, is_quiet, is_unfailed}
 use Rattle.volume_turns.proofs.QuietLaws.{unfailed_not, unfailed_said, quiet_unfailed}
 use Rattle.volume_turns.specs.Line.{IsStatusAs, is_unsaid}
 use Rattle.volume_turns.proofs.StatusLaws.{not_as}
@@ -20,7 +20,7 @@ pub record CountsReading (old new : Report) (status : ℕ) : Type 0 where
 
 -- ---- behind an attach
 
-pub counts_opened : (a b c : Report) (status : ℕ) → CountsNone a b → CountsRun b c status → CountsFaults a c status
+pub counts_opened : {longer : Bool} (a b c : Report) (status : ℕ) → CountsNone a b → CountsRunBy longer b c status → CountsFaults a c status
 counts_opened a b c status same counts = record {
   disk = λ four. subst (λ (n : ℕ). Rose n c.disk_faults) same.disk (counts.disk four);
   input = counts.input ∙ same.input;

@@ -1,6 +1,6 @@
 -- What the runs of a life leave of its puts, and what its list says.
 use Rattle.std.proofs.Common.{◌≡◌, ◌⊎◌, inl, inr, ℕ, suc, ◌+◌, ◌≤◌, List, [], ◌∷◌, ◌++◌, length, take, filter, Option, Some, None, refl, sym, ap, subst, ◌∙◌, arith}
-use Rattle.std.specs.Prelude.{IsSome, Ok}
+use Rattle.std.specs.Prelude.{IsSome}
 use Rattle.std.specs.List.{flat_map}
 use Rattle.std.proofs.lemmas.List.{append-nil, length-append, length-take, take-append-le, take-take, take_all}
 use Rattle.volume_layout.specs.declared.layout.Layout.{Layout}

@@ -343,7 +343,7 @@ format_asked (Err why) path old new result status asks all inside = none asks.at
     none (inr same) = same ∙ sym (append-nil old.attaches)
 
 pub ran_format : {D : Type 0} (M : Ghosts D) (n t p q : ℕ) (kind : Kind) (path : List ℕ) (a b : D) (result : ℕ) → RunsFormat M (plan_most kind n t p q) path a b result → Ran M (Format n t p kind q) path a b result
-ran_format M n t p kind path a b result e = record {
+ran_format M n t p q kind path a b result e = record {
   status = format_status_is (plan_most kind n t p q) result e.status;
   complete = λ none. format_complete (plan_most kind n t p q) result e.status (λ four. none.disk (e.counts.disk four)) (λ six. none.output (e.counts.output six));
   device = e.counts.disk;

@@ -31,7 +31,13 @@ pub fn run_format<M: Machine>(
 }
 
 // The layout of these numbers, of this kind, or the first fault.
-fn plan_of(sectors: u32, third: u32, pages: u32, kind: Kind, most: u32) -> Result<Layout, LayoutFault>
+fn plan_of(
+    sectors: u32,
+    third: u32,
+    pages: u32,
+    kind: Kind,
+    most: u32,
+) -> Result<Layout, LayoutFault>
     ensures { result ≡ plan_most kind sectors third pages most }
 {
     Ok(Layout::plan_most(sectors, third, pages, most)?.with_kind(kind))

@@ -9,7 +9,7 @@ use Rattle.fsd_bytes.specs.Names.{is_between}
 use Rattle.volume_layout.specs.declared.kind.Kind.{Kind}
 use Rattle.volume_layout.specs.declared.layout.Layout.{Layout}
 use Rattle.volume_layout.specs.declared.fault.LayoutFault.{LayoutFault}
-use Rattle.volume_layout.specs.Layout.{least_size, plan}
+use Rattle.volume_layout.specs.Layout.{IsPlanned, least_for, may_grow_to, plan_most}
 use Rattle.volume_layout.proofs.RootLaws.{ok_if}
 use Rattle.sector_disk.specs.declared.machine.Machine.{Ghosts}
 use Rattle.sector_disk.specs.declared.sector.WeakRun.{WeakRun}
@@ -27,7 +27,7 @@ use Rattle.fsd_sound.specs.Shown.{told}
 use Rattle.fsd_sound.specs.Sound.{EndIn, IsPrefixOf, IsSaid, IsSound, weak_of}
 use Rattle.fsd_sound.specs.Sound.{Tells as TellsAt}
 use Rattle.fsd_sound.proofs.SoundLaws.{sound_still}
-use Rattle.fsd_sound.proofs.TurnedLaws.{said_sound}
+use Rattle.fsd_sound.proofs.BesideLaws.{said_sound}
 use Rattle.fsd_sound.proofs.WindowLaws.{borne_narrow, last_snoc, open_is_weak}
 use Rattle.fsd_texts.specs.declared.fault.Fault.{Fault}
 use Rattle.fsd_texts.specs.declared.fault.Fault.TheVariants as Ended
@@ -106,7 +106,7 @@ mounts_give (Asks.Dump since most) P mounts p = p
 mounts_give Asks.Restore P mounts p = p
 mounts_give Asks.NoCommand P mounts p = absurd mounts
 mounts_give (Asks.BadField cause) P mounts p = absurd mounts
-mounts_give (Asks.Format n t k kind) P mounts p = absurd mounts
+mounts_give (Asks.Format n t k kind q) P mounts p = absurd mounts
 mounts_give Asks.Drill P mounts p = absurd mounts
 
 -- an image of some moment of these
@@ -448,16 +448,17 @@ all_tell M (x ∷ xs) h f Begins ready few (begins, life, rest) =
 
 -- ---- from a format on
 
-planned_by : (kind : Kind) (n t p : ℕ) (l : Layout) → plan kind n t p ≡ Ok l → plan l.kind l.sectors l.third l.pages ≡ Ok l
-planned_by kind n t p l e =
-    let a = ok_if (is_between 200 4096 t) _ _ l e in
+planned_by : (kind : Kind) (n t p q : ℕ) (l : Layout) → plan_most kind n t p q ≡ Ok l → IsPlanned l
+planned_by kind n t p q l given =
+    let a = ok_if (is_between 200 4096 t) _ _ l given in
     let b = ok_if (is_between 16 4096 p) _ _ l a.1 in
     let c = ok_if (nat_le n (2 ^ 24)) _ _ l b.1 in
-    let d = ok_if (nat_le (least_size t p) n) _ _ l c.1 in
-    let same : record { sectors = n; third = t; pages = p; kind = kind } ≡ l = cc d.1 in
-    subst (λ (x : Layout). plan x.kind x.sectors x.third x.pages ≡ Ok l) same e
+    let d = ok_if (may_grow_to n q) _ _ l c.1 in
+    let e = ok_if (nat_le (least_for t p q) n) _ _ l d.1 in
+    let same : record { sectors = n; third = t; pages = p; kind = kind; most = q } ≡ l = cc e.1 in
+    subst (λ (x : Layout). plan_most x.kind x.sectors x.third x.pages x.most ≡ Ok l) same given
 
-made_stands : (l : Layout) (left : Moment) → plan l.kind l.sectors l.third l.pages ≡ Ok l → HoldsVolume l left → Standing [] 0 left
+made_stands : (l : Layout) (left : Moment) → IsPlanned l → HoldsVolume l left → Standing [] 0 left
 made_stands l left planned holds = record {
   layout = l;
   windows = holds.run ∷ [];
@@ -468,15 +469,15 @@ made_stands l left planned holds = record {
   };
 }
 
-pub formatted_tell : {D : Type 0} (M : Ghosts D) (n t p : ℕ) (kind : Kind) (path : List ℕ) (a b : D) (left : Moment) (lives : List (Life D)) → M.honest b → Ran M (Asks.Format n t p kind) path a b 0
+pub formatted_tell : {D : Type 0} (M : Ghosts D) (n t p q : ℕ) (kind : Kind) (path : List ℕ) (a b : D) (left : Moment) (lives : List (Life D)) → M.honest b → Ran M (Asks.Format n t p kind q) path a b 0
     → M.left_since b (M.now b).synced left → AreLives M (IsLeft M left) lives → Tells M [] lives
-formatted_tell M n t p kind path a b left lives honest ran held are = by (plan kind n t p) refl (ran.image refl honest)
+formatted_tell M n t p q kind path a b left lives honest ran held are = by (plan_most kind n t p q) refl (ran.image refl honest)
   where
     from : Standing [] 0 left → Tells M [] lives
     from s =
         let all = all_tell M lives [] 0 (IsLeft M left) (λ m at. left_ready M [] 0 left m s at) (omega arith) are in
         subst (λ (h : List Change). Tells M (after h) lives) (take-nil all.0) all.2
 
-    by : (r : Result Layout LayoutFault) → plan kind n t p ≡ r → IsMadeBy r (IsHeld M b) → Tells M [] lives
-    by (Ok l) planned made = from (made_stands l left (planned_by kind n t p l planned) (made left held))
+    by : (r : Result Layout LayoutFault) → plan_most kind n t p q ≡ r → IsMadeBy r (IsHeld M b) → Tells M [] lives
+    by (Ok l) planned made = from (made_stands l left (planned_by kind n t p q l planned) (made left held))
     by (Err why) planned made = absurd made

@@ -1,4 +1,5 @@
--- What puts, gets and lists say and do, in words of files; and histories of these, of dumps and of restores.
+-- What puts, gets and lists say and do, in words of files; and histories of these, of upgrades and growths, of dumps and
+-- of restores.
 use Rattle.std.proofs.Common.{◌≡◌, ◌⊎◌, inl, inr, ℕ, zero, suc, Bool, true, false, List, [], ◌∷◌, ◌++◌, length, take, filter, Option, Some, None, refl, sym, ap, subst, ◌∙◌, arith}
 use Rattle.std.specs.Prelude.{nat_lt, if◌then◌else◌}
 use Rattle.std.specs.List.{fold}
@@ -265,7 +266,7 @@ module _ {D : Type 0} (M : Ghosts D) (name : List ℕ) (keep : Option ℕ) where
       by (inl none) = inl (subst (λ (s : Files). Says y s) none says)
       by (inr one) = inr (subst (λ (s : Files). Says y s) one says)
 
--- ---- histories of puts, gets, lists, dumps and restores
+-- ---- histories of puts, gets, lists, upgrades, growths, dumps and restores
 
 module _ (command : Command) (still : (reply : Reply) → changes_of command reply ≡ []) (input : List ℕ) where
   still_begun : (Shown : Image → Type 0) (i : Image) (cut : Cut) → MayCut (Asks.One command) cut → (mets : List Meeting) (v : Volume) → Meets Shown i (session_over v) mets (errand_in (Asks.One command) input cut v).commands
@@ -288,11 +289,23 @@ module _ (command : Command) (still : (reply : Reply) → changes_of command rep
   still_stops Shown said s next (inr x) =
       x.files ∙ ap (λ (cs : List Change). fold step s (take x.found cs)) (still_begun Shown x.plays.image x.plays.cut x.plays.may x.plays.mets x.plays.volume x.plays.meets x.whole) ∙ ap (fold step s) (take-nil x.found)
 
+  still_turns : (cut : Cut) → MayCut (Asks.One command) cut → (mets : List Meeting) (v : Volume) → length mets ≡ length (errand_in (Asks.One command) input cut v).commands
+      → changes_in (turns_of (errand_in (Asks.One command) input cut v) mets (session_over v)) ≡ []
+  still_turns None may mets v through =
+      let once = answered_once command v mets through in
+      ap changes_in once.1.turns ∙ append-nil (changes_of command (reply_to command v once.0)) ∙ still (reply_to command v once.0)
+  still_turns (Some x) may mets v through = absurd may
+
+  still_ends : (Shown : Image → Type 0) (said : List ℕ) (s next : Files) (status : ℕ) → Ends Shown (Asks.One command) input s said status next → next ≡ s
+  still_ends Shown said s next status x = let p = x.plays in x.files ∙ ap (fold step s) (still_turns p.cut p.may p.mets p.volume x.through)
+
 ends_plainly : (Shown : Image → Type 0) (request : Request) (input said : List ℕ) (s next : Files) (status : ℕ) → Ends Shown request (input_for request input) s said status next → EndsPlainly request input s said status next
 ends_plainly Shown (Asks.Put name keep) input said s next status x =
     (λ nought. put_found name keep input Shown said s next (subst (λ (n : ℕ). Ends Shown (Asks.Put name keep) input s said n next) nought x), put_refused name keep input Shown said s next status x, put_unread name keep input Shown said s next status x)
 ends_plainly Shown (Asks.One (Word.Get key)) input said s next status x = get_says Shown key [] said s next status x
 ends_plainly Shown (Asks.One (Word.List pattern)) input said s next status x = pattern_says Shown pattern [] said s next status x
+ends_plainly Shown (Asks.One Word.Upgrade) input said s next status x = still_ends Word.Upgrade (λ reply. refl) [] Shown said s next status x
+ends_plainly Shown (Asks.One (Word.Grow sectors)) input said s next status x = still_ends (Word.Grow sectors) (λ reply. refl) [] Shown said s next status x
 ends_plainly Shown (Asks.Dump since most) input said s next status x = dump_ends Shown since most said s next status x
 ends_plainly Shown Asks.Restore input said s next status x = restore_ends Shown input said s next status x
 ends_plainly Shown request input said s next status x = tt
@@ -306,6 +319,8 @@ stops_plainly : (Shown : Image → Type 0) (request : Request) (input said : Lis
 stops_plainly Shown (Asks.Put name keep) input said s next x = put_stops name keep input Shown said s next x
 stops_plainly Shown (Asks.One (Word.Get key)) input said s next x = still_stops (Word.Get key) (λ reply. refl) [] Shown said s next x
 stops_plainly Shown (Asks.One (Word.List pattern)) input said s next x = still_stops (Word.List pattern) (λ reply. refl) [] Shown said s next x
+stops_plainly Shown (Asks.One Word.Upgrade) input said s next x = still_stops Word.Upgrade (λ reply. refl) [] Shown said s next x
+stops_plainly Shown (Asks.One (Word.Grow sectors)) input said s next x = still_stops (Word.Grow sectors) (λ reply. refl) [] Shown said s next x
 stops_plainly Shown (Asks.Dump since most) input said s next x = dump_stops Shown since most said s next x
 stops_plainly Shown Asks.Restore input said s next x = restore_stops Shown input said s next x
 stops_plainly Shown request input said s next x = tt

@@ -23,13 +23,13 @@ use sector_disk::Machine;
 /// Runs one after another over a volume that was formatted, each to its end or stopped at any moment, are told by files
 /// alone, from none on.
 pub fn runs_tell_files<M: Machine>()
-    ensures { (n t p : ℕ) (kind : Kind) (path : List ℕ) (a b : M) (left : Moment) (lives : List (Life M)) →
-        M.honest b → Ran M.Machine (Format n t p kind) path a b 0 → M.left_since b (M.now b).synced left →
+    ensures { (n t p q : ℕ) (kind : Kind) (path : List ℕ) (a b : M) (left : Moment) (lives : List (Life M)) →
+        M.honest b → Ran M.Machine (Format n t p kind q) path a b 0 → M.left_since b (M.now b).synced left →
         AreLives M.Machine (IsLeft M.Machine left) lives → Tells M.Machine [] lives }
 {}
 
-/// So of puts, gets and lists, of dumps, which leave the files, and of restores, which load some first versions of a
-/// dump, and all where they end with 0; whatever other runs are between, in fewer words.
+/// So of puts, gets and lists, of upgrades, growths and dumps, which leave the files, and of restores, which load some
+/// first versions of a dump, and all where they end with 0; whatever other runs are between, in fewer words.
 pub fn puts_gets_and_lists_tell_files<M: Machine>()
     ensures { (s : Files) (lives : List (Life M)) → Tells M.Machine s lives → TellsPlainly M.Machine s lives }
 {}

@@ -1,41 +1,83 @@
-//! Growth of a volume: its rows, what a stop in it leaves, and what stands in the sectors that it gains.
-use crate::machines::{NEVER, Row, calm, first_wrong, formatted, run, run_behind, stop_in, weak};
-use sector_disk::{Event, MemoryMachine};
+//! Growth of a volume: what it says, what a stop, a fault or wear in it leaves, and what is put and read where it has grown.
+//! Each volume has its roots at 0 and 4, and one sector of map, which has bits for 3968 sectors.
+use crate::machines::{
+    Met, Row, calm, first_wrong, first_wrong_met, formatted, run, run_behind, weak,
+};
+use crate::stops::{SMALL, SMALL_TWO};
+use memory_machine::{Event, MemoryMachine, When};
+use sector_disk::Sector;
 use std::alloc::{AllocError, Global};
 use std::test::Fail;
 
-const FORMAT: &str = "cfs format v 2048 256 64";
+const ONE: &str = "cfs format v 2048 256 64";
+
+const TWO: &str = "cfs format v 2048 256 64 --layout 2";
 
 const GROW: &str = "cfs grow v 3968";
 
 const STAT: &str = "cfs stat v";
 
-const SMALL: &str = "stat free 1127 waiting 0 pages 63 versions 0\n";
+const UPGRADE: &str = "cfs upgrade v";
 
-const LARGE: &str = "stat free 3047 waiting 0 pages 63 versions 0\n";
+const GROWN: Row<'static> = (GROW, b"", 0, "grown 3968 free 3047\n");
 
-const ROWS: [Row<'static>; 9] = [
+const GREW: Row<'static> = (GROW, b"", 1, "refused size 3968\n");
+
+const UPGRADED: Row<'static> = (UPGRADE, b"", 0, "upgraded 2\n");
+
+const NARROW: Row<'static> = (
+    STAT,
+    b"",
+    0,
+    "stat free 1127 waiting 0 pages 63 versions 0\n",
+);
+
+const WIDE: Row<'static> = (
+    STAT,
+    b"",
+    0,
+    "stat free 3047 waiting 0 pages 63 versions 0\n",
+);
+
+// A version that the sectors of before have no room for.
+const BYTES: &[u8] = &[7; 700_000];
+
+const PUT: Row<'static> = ("cfs put v a", BYTES, 0, "made a!1 1369\n");
+
+const GROWTH: [Row<'static>; 11] = [
     ("cfs grow v 3969", b"", 1, "refused most 3968\n"),
     ("cfs grow v 2048", b"", 1, "refused size 2048\n"),
-    (GROW, b"", 0, "grown 3968 free 3047\n"),
-    (STAT, b"", 0, LARGE),
-    (GROW, b"", 1, "refused size 3968\n"),
-    ("cfs put v a", &[7; 700_000], 0, "made a!1 1369\n"),
-    (STAT, b"", 0, "stat free 1678 waiting 0 pages 63 versions 1\n"),
-    ("cfs delete v a!1", b"", 0, "deleted a!1\n"),
-    (STAT, b"", 0, LARGE),
+    ("cfs grow v 0", b"", 1, "refused size 0\n"),
+    ("cfs grow v 2049", b"", 0, "grown 2049 free 1128\n"),
+    ("cfs grow v 2048", b"", 1, "refused size 2048\n"),
+    GROWN,
+    WIDE,
+    GREW,
+    ("cfs put v b", &[7; 577_024], 0, "made b!1 1128\n"),
+    ("cfs delete v b!1", b"", 0, "deleted b!1\n"),
+    PUT,
 ];
+
+// Whether these lines go well on a volume of either layout, and the version can be read behind them.
+fn holds_bytes(alloc: Global, rows: &[Row]) -> Result<bool, AllocError> {
+    for format in [ONE, TWO] {
+        let (m, wrong) = first_wrong(alloc, calm(alloc, formatted(alloc, format)?), rows)?;
+        let sectors = m.image().len();
+        let (m, status) = run(alloc, m, &[], "cfs get v a!1", b"")?;
+        if wrong.is_some() || sectors != 3968 || status != 0 || m.said() != BYTES {
+            return Ok(false);
+        }
+    }
+    Ok(true)
+}
 
 #[test]
 fn a_volume_grows_to_its_most(rt: HostRuntime) -> Result<(), Fail> {
-    let image = formatted(rt.alloc(), FORMAT)?;
-    let (m, wrong) = first_wrong(rt.alloc(), calm(rt.alloc(), image), &ROWS)?;
-    assert_eq!(rt; wrong, None);
-    assert_eq!(rt; m.image().len(), 3968);
+    assert_eq!(rt; holds_bytes(rt.alloc(), &GROWTH)?, true);
     Ok(())
 }
 
-const MOST: [Row<'static>; 5] = [
+const MOST: [Row<'static>; 7] = [
     (
         "cfs format w 2048 256 64 --most 8000",
         b"",
@@ -44,53 +86,233 @@ const MOST: [Row<'static>; 5] = [
     ),
     ("cfs grow w 8001", b"", 1, "refused most 8000\n"),
     ("cfs grow w 8000", b"", 0, "grown 8000 free 7077\n"),
-    ("cfs format w 2048 256 64 --most 2047", b"", 1, "refused most 2047\n"),
-    ("cfs format w 920 256 64 --most 8000", b"", 1, "refused too-small 987\n"),
+    (
+        "cfs format w 2048 256 64 --most 2047",
+        b"",
+        1,
+        "refused most 2047\n",
+    ),
+    (
+        "cfs format w 2048 256 64 --most 16777217",
+        b"",
+        1,
+        "refused most 16777217\n",
+    ),
+    (
+        "cfs format w 920 256 64 --most 8000",
+        b"",
+        1,
+        "refused too-small 987\n",
+    ),
+    (
+        "cfs format w 2048 256 64 --most x",
+        b"",
+        2,
+        "bad line 0: bad number\n",
+    ),
 ];
 
 #[test]
 fn a_format_says_how_far_a_volume_may_grow(rt: HostRuntime) -> Result<(), Fail> {
-    let (_, wrong) = first_wrong(rt.alloc(), calm(rt.alloc(), Vec::new(rt.alloc())), &MOST)?;
+    let alloc = rt.alloc();
+    let (_, wrong) = first_wrong(alloc, calm(alloc, Vec::new(alloc)), &MOST)?;
     assert_eq!(rt; wrong, None);
     Ok(())
 }
 
-// What a growth meets, and what is counted behind it and the next mount.
-const STOPS: [(Option<(u32, u32)>, &str, &str); 5] = [
-    (None, "grown 3968 free 3047\n", LARGE),
-    (Some((0, 0)), "", SMALL),
-    (Some((0, 1)), "", LARGE),
-    (Some((4, 0)), "", LARGE),
-    (Some((4, 1)), "", LARGE),
+const FIRST_ROOT: Event = Event::StopIn {
+    first: 0,
+    nth: 1,
+    stand: 0,
+};
+
+const SECOND_ROOT: Event = Event::StopIn {
+    first: 4,
+    nth: 1,
+    stand: 0,
+};
+
+const ROOT_FAILS: Event = Event::FailIn {
+    first: 4,
+    nth: 1,
+    stand: 0,
+};
+
+// What is said behind a stop or a fault, and where a volume has grown and was upgraded, or either was cut off.
+const STORIES: [&[Met<'static>]; 7] = [
+    &[
+        (&[FIRST_ROOT], (GROW, b"", 6, "")),
+        (&[], NARROW),
+        (&[], GROWN),
+    ],
+    &[
+        (&[SECOND_ROOT], (GROW, b"", 6, "")),
+        (&[], WIDE),
+        (&[], GREW),
+    ],
+    &[
+        (&[ROOT_FAILS], (GROW, b"", 4, "fault device 4\n")),
+        (&[], WIDE),
+    ],
+    &[(&[], GROWN), (&[], UPGRADED), (&[], WIDE), (&[], PUT)],
+    &[(&[], UPGRADED), (&[], GROWN), (&[], WIDE), (&[], PUT)],
+    &[
+        (&[SECOND_ROOT], (GROW, b"", 6, "")),
+        (&[], UPGRADED),
+        (&[], GREW),
+        (&[], PUT),
+    ],
+    &[
+        (&[SECOND_ROOT], (UPGRADE, b"", 6, "")),
+        (&[], GROWN),
+        (&[], (UPGRADE, b"", 1, "refused layout 2\n")),
+        (&[], PUT),
+    ],
 ];
 
-// The machine stops in the first write of this root, with so many sectors of it.
-fn event_of(stop: Option<(u32, u32)>) -> Event {
-    match stop {
-        Some((root, stand)) => stop_in(root, 1, stand),
-        None => NEVER,
+#[test]
+fn the_next_run_finds_a_volume_that_grew(rt: HostRuntime) -> Result<(), Fail> {
+    let image = formatted(rt.alloc(), ONE)?;
+    for (i, rows) in STORIES.iter().enumerate() {
+        let m = calm(rt.alloc(), image.to_vec(rt.alloc())?);
+        assert_eq!(rt; first_wrong_met(rt.alloc(), m, rows)?, None, "{i}");
+    }
+    Ok(())
+}
+
+// Of a small volume with a version of one byte.
+const FEW: &[u8] = b"stat free 62 waiting 0 pages 15 versions 1\n";
+
+const MANY: &[u8] = b"stat free 3309 waiting 0 pages 15 versions 1\n";
+
+const READ: [Row<'static>; 2] = [
+    (
+        STAT,
+        b"",
+        0,
+        "stat free 3309 waiting 0 pages 15 versions 1\n",
+    ),
+    ("cfs get v a!1", b"", 0, "x"),
+];
+
+// Whether a growth with these events has said its reply, or a fault, or nothing, and the next run finds that it was done or
+// not; and that it is said then only where it was done, and is done where it was not.
+fn is_done_or_not(
+    alloc: Global,
+    m: MemoryMachine,
+    held: usize,
+    events: [&[Event]; 2],
+) -> Result<bool, AllocError> {
+    let [growing, counting] = events;
+    let (m, status) = run(alloc, m, growing, GROW, b"")?;
+    let said = match status {
+        0 => m.said() == b"grown 3968 free 3309\n".as_slice(),
+        4 => m.said().starts_with(b"fault device "),
+        _ => status == 6 && m.said().is_empty(),
+    };
+    let (m, end) = run_behind(alloc, m, held, counting, STAT, b"")?;
+    let many = m.said() == MANY;
+    let found = end == 0 && (many || status != 0 && m.said() == FEW);
+    let (m, again) = run(alloc, m, &[], GROW, b"")?;
+    let grown = if many {
+        again == 1 && m.said() == b"refused size 3968\n".as_slice()
+    } else {
+        again == 0 && m.said() == b"grown 3968 free 3309\n".as_slice()
+    };
+    let (m, wrong) = first_wrong(alloc, m, &READ)?;
+    Ok(said && found && grown && m.honest() && wrong.is_none())
+}
+
+// A volume with a version.
+fn with_version(alloc: Global, format: &str) -> Result<Vec<Sector>, AllocError> {
+    let m = calm(alloc, formatted(alloc, format)?);
+    let (m, _) = run(alloc, m, &[], "cfs put v a", b"x")?;
+    m.image().to_vec(alloc)
+}
+
+// What may end a growth: it stops behind so many sectors, or so many calls have gone well before one fails.
+fn event_of(stops: bool, count: u64) -> Event {
+    if stops {
+        Event::Stop { after: count }
+    } else {
+        Event::FailCall {
+            call: count.saturating_add(1),
+            stand: 0,
+        }
     }
 }
 
-fn after(alloc: Global, m: MemoryMachine, held: usize, event: Event, said: &str, counts: &str) -> Result<(bool, bool), AllocError> {
-    let (m, _) = run(alloc, m, &[event], GROW, b"")?;
-    let grown = m.said() == said.as_bytes();
-    let (m, _) = run_behind(alloc, m, held, &[], STAT, b"")?;
-    Ok((grown, m.said() == counts.as_bytes()))
+// The first count below this of which a growth leaves anything else, where so many calls are lost that were held back.
+fn wrong_event(
+    alloc: Global,
+    format: &str,
+    held: usize,
+    stops: bool,
+    counts: u64,
+) -> Result<Option<u64>, AllocError> {
+    let image = with_version(alloc, format)?;
+    for count in 0..counts {
+        let m = calm(alloc, image.to_vec(alloc)?);
+        if !is_done_or_not(alloc, m, held, [&[event_of(stops, count)], &[]])? {
+            return Ok(Some(count));
+        }
+    }
+    Ok(None)
+}
+
+// Where nothing wears such a growth writes eight sectors, and its reply is said by the 65th call.
+#[test]
+fn a_stopped_growth_is_done_or_not(rt: HostRuntime) -> Result<(), Fail> {
+    for (format, held) in [(SMALL, 0), (SMALL_TWO, 0), (SMALL, 1000)] {
+        assert_eq!(rt;
+            wrong_event(rt.alloc(), format, held, true, 9)?,
+            None,
+            "{format} {held}"
+        );
+    }
+    Ok(())
 }
 
 #[test]
-fn a_stopped_growth_is_done_or_not(rt: HostRuntime) -> Result<(), Fail> {
-    let image = formatted(rt.alloc(), FORMAT)?;
-    for (stop, said, counts) in STOPS {
-        let m = calm(rt.alloc(), image.to_vec(rt.alloc())?);
-        assert_eq!(rt; after(rt.alloc(), m, 0, event_of(stop), said, counts)?, (true, true));
+fn a_growth_that_fails_is_done_or_not(rt: HostRuntime) -> Result<(), Fail> {
+    assert_eq!(rt; wrong_event(rt.alloc(), SMALL, 0, false, 66)?, None);
+    Ok(())
+}
+
+const BEHIND_ROOTS: Event = Event::StopIn {
+    first: 4,
+    nth: 1,
+    stand: 1,
+};
+
+// A sector is damaged once the run has attached the image.
+fn hurt(sector: u32) -> Event {
+    Event::HurtAt {
+        sector,
+        when: When::Call(2),
     }
-    // what was written since the last sync is lost, the roots among it; the extend has synced
-    let m = calm(rt.alloc(), image.to_vec(rt.alloc())?);
-    assert_eq!(rt; after(rt.alloc(), m, 9, stop_in(4, 1, 1), "", SMALL)?, (true, true));
-    // a root wears in the window
-    let m = weak(rt.alloc(), image.as_slice(), 2, [4, 4, 0])?;
-    assert_eq!(rt; after(rt.alloc(), m, 0, stop_in(4, 1, 0), "", LARGE)?, (true, true));
+}
+
+// The first sector of a weak run of so many, of which a growth that stops at a root, or behind both, leaves anything else
+// where these sectors of the run are damaged as it begins and again before the next one.
+fn wrong_run(alloc: Global, format: &str, count: u32) -> Result<Option<u32>, AllocError> {
+    let image = with_version(alloc, format)?;
+    for first in [0u32, 4, 8, 12, 16, 616, 636, 655, 720] {
+        let last = first.saturating_add(count.saturating_sub(1));
+        let [a, b, c] = [hurt(first), hurt(first.saturating_add(1)), hurt(last)];
+        for stop in [FIRST_ROOT, SECOND_ROOT, BEHIND_ROOTS] {
+            let m = weak(alloc, image.as_slice(), count, [first; 3])?;
+            if !is_done_or_not(alloc, m, 0, [&[a, b, c, stop], &[a, b, c]])? {
+                return Ok(Some(first));
+            }
+        }
+    }
+    Ok(None)
+}
+
+#[test]
+fn a_stopped_growth_may_wear(rt: HostRuntime) -> Result<(), Fail> {
+    assert_eq!(rt; wrong_run(rt.alloc(), SMALL, 2)?, None);
+    assert_eq!(rt; wrong_run(rt.alloc(), SMALL_TWO, 3)?, None);
     Ok(())
 }

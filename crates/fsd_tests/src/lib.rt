@@ -17,6 +17,8 @@ mod files;
 #[cfg(test)]
 mod full;
 #[cfg(test)]
+mod growing;
+#[cfg(test)]
 mod images;
 #[cfg(test)]
 mod machines;

@@ -17,7 +17,7 @@ returns-in-BadField g c =
 pub returns-in-Format : goal.returns-in-Format
 returns-in-Format g c =
     let x = c.in-Format in
-    rw x.is (ran_format g.M.Machine x.sectors x.third x.pages x.kind c.args.path.now c.args.m.now c.run_format.new.m c.run_format.result c.run_format.ensures)
+    rw x.is (ran_format g.M.Machine x.sectors x.third x.pages x.most x.kind c.args.path.now c.args.m.now c.run_format.new.m c.run_format.result c.run_format.ensures)
 
 pub returns-in-One : goal.returns-in-One
 returns-in-One g c = rw c.in-One.is c.run_command.ensures
