@@ -15,9 +15,7 @@ use Rattle.fsd_bytes.specs.declared.key.Key.{Key}
 use Rattle.fsd_bytes.specs.declared.key.Serial.{Serial}
 use Rattle.fsd_files.specs.Disk.{Image}
 use Rattle.fsd_files.specs.Kept.{IsWhole}
-use Rattle.fsd_files.specs.Scrub.{Picks}
 use Rattle.fsd_files.specs.Volume.{Volume}
-use Rattle.fsd_files.proofs.ScrubLaws.{picks_longer}
 use Rattle.fsd_log.specs.Scan.{Placed}
 use Rattle.fsd_sound.specs.Laid.{HasOwnRoots}
 use Rattle.fsd_sound.specs.Mounted.{IsMounted, Mounted}
@@ -33,7 +31,6 @@ use Rattle.fsd_runs.specs.Errands.{Turn}
 use Rattle.fsd_runs.specs.Leaves.{SaysFault}
 use Rattle.fsd_runs.specs.Runs.{IsDumpedSo, said_in}
 use Rattle.volume_contract.specs.State.{State, Ages, Known, Stands, forced_of, volume_of}
-use Rattle.scrub.proofs.LookLaws.{Any, anything}
 use Rattle.volume_turns.specs.Once.{IsDone}
 use Rattle.volume_turns.specs.Steps.{StaysSoundFor}
 use Rattle.volume_turns.specs.Turns.{InRun, OnDisk, SaysAll}

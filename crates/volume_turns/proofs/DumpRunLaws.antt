@@ -4,8 +4,6 @@ use Rattle.std.specs.Prelude.{IsSome, Result, Ok, Err, option_map, slice_get}
 use Rattle.std.specs.List.{concat}
 use Rattle.std.proofs.lemmas.List.{append-nil, append_cancel_left, take-append-drop, take-map}
 use Rattle.std.proofs.lemmas.Bool.{eq-eqb}
-use Rattle.std.proofs.lemmas.List.Concat.{concat_is}
-use Rattle.std.proofs.lemmas.List.Folds.{flat_map-map}
 use Rattle.std.proofs.lemmas.Option.{slice_get-map}
 use Rattle.std.proofs.lemmas.Grind.{flat_map-append}
 use Rattle.sector_disk.specs.declared.machine.Machine.{Ghosts}

@@ -6,14 +6,14 @@ use Rattle.std.proofs.lemmas.Bool.{leb-false, leb-true, ltb-false, ltb-true}
 use Rattle.std.proofs.lemmas.List.{append-nil, length-append}
 use Rattle.std.proofs.lemmas.List.FromFn.{length-range_with_len}
 use Rattle.volume_layout.specs.declared.layout.Layout.{Layout}
-use Rattle.volume_layout.specs.Layout.{most_of, with_sectors}
+use Rattle.volume_layout.specs.Layout.{most_of}
 use Rattle.run_table.specs.declared.run.Run.{Run}
 use Rattle.run_table.specs.RunTable.{sectors_of, total}
 use Rattle.run_table.proofs.SectorLaws.{length_of_sectors}
 use Rattle.fsd_bytes.specs.declared.refusal.Refusal.{Refusal}
 use Rattle.fsd_bytes.specs.declared.refusal.Refusal.TheVariants as Why
 use Rattle.sector_disk.specs.declared.machine.Machine.{Ghosts}
-use Rattle.sector_disk.specs.Calls.{GrowsDisk, IsTimed, Since}
+use Rattle.sector_disk.specs.Calls.{IsTimed, Since}
 use Rattle.sector_disk.specs.Image.{AreShort, IsWorn}
 use Rattle.sector_disk.specs.Machine.{LeavesOnly, Moment}
 use Rattle.fsd_log.specs.Scan.{Placed}
@@ -32,7 +32,7 @@ use Rattle.fsd_runs.specs.Commands.{reply_alone}
 use Rattle.fsd_texts.specs.declared.command.Command.TheVariants as Word
 use Rattle.fsd_texts.specs.declared.fault.Fault.{Fault}
 use Rattle.fsd_texts.specs.declared.fault.Fault.TheVariants as Ends
-use Rattle.volume_contract.specs.Growth.{EndsGrow, LeavesGrown, grown_known, grown_state, with_more}
+use Rattle.volume_contract.specs.Growth.{EndsGrow, LeavesGrown, grown_known, with_more}
 use Rattle.volume_contract.specs.Order.{IsDeviceIn, KeepsRefused, Roots, Test, grow_steps, is_idle, is_root}
 use Rattle.volume_contract.specs.State.{Ages, Known, Stands, State, downs_for, forced_of, none_open, volume_of}
 use Rattle.volume_turns.specs.declared.turns.Halt.{Halt}

@@ -1,6 +1,5 @@
 -- An image that may get more sectors: how many are told, what is touched, and what a call leaves.
-use Rattle.std.proofs.Common.{◌≡◌, ◌∙◌, ℕ, Bool, Option, true, false, refl, sym, subst, arith}
-use Rattle.std.specs.Prelude.{IsFalse}
+use Rattle.std.proofs.Common.{◌≡◌, ℕ, Bool, Option, true, false, refl, sym, subst, arith}
 use Rattle.sector_disk.specs.declared.machine.Machine.{Ghosts}
 use Rattle.sector_disk.specs.Calls.{GrowsDisk, Since, WritesDisk}
 use Rattle.sector_disk.specs.Image.{IsWorn, Windows, open_damage, sector_at}

@@ -3,7 +3,7 @@ use Rattle.std.proofs.Common.{◌≡◌, ◌⊎◌, inl, inr, ⊎_elim, cond, tr
 use Rattle.fsd_log.specs.Scan.{Placed}
 use Rattle.volume_layout.specs.declared.layout.Layout.{Layout}
 use Rattle.std.specs.Prelude.{IsTrue, Result, Ok, Err, OnOk, IfErr, slice_get}
-use Rattle.std.specs.List.{AllByRecursion, list_any}
+use Rattle.std.specs.List.{list_any}
 use Rattle.std.proofs.lemmas.List.{append-nil}
 use Rattle.sector_disk.specs.declared.machine.Machine.{Ghosts}
 use Rattle.sector_disk.specs.declared.sector.WeakRun.{WeakRun}

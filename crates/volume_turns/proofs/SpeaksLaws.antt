@@ -14,9 +14,9 @@ use Rattle.volume_turns.specs.declared.turns.Halt.TheVariants.{Fault as Stopped}
 use Rattle.volume_turns.specs.Group.{is_worn_end}
 use Rattle.volume_turns.specs.Steps.{IsOfCall, device_told}
 use Rattle.volume_turns.specs.Once.{SaysForcedOver}
-use Rattle.volume_turns.specs.Turns.{FaultToldBy, KeepsCalls, device_end, SaysText, Speaks, SpeaksBy}
+use Rattle.volume_turns.specs.Turns.{KeepsCalls, device_end, SaysText, Speaks, SpeaksBy}
 use Rattle.volume_turns.proofs.CountLaws.{unheard_on, told_all, told_end, told_more, told_worn_out}
-use Rattle.volume_turns.proofs.LongerLaws.{keeps_before, keeps_same}
+use Rattle.volume_turns.proofs.LongerLaws.{keeps_same}
 use Rattle.volume_turns.proofs.RunLaws.{later_on, since_on, told_done, told_fault}
 use Rattle.volume_turns.proofs.SyncLaws.{none_up_to, once_up_to, syncs_behind, syncs_more, syncs_then, writes_up_to}
 

@@ -1,5 +1,5 @@
 -- An upgrade by itself: how it is refused, and what it leaves.
-use Rattle.std.proofs.Common.{◌≡◌, ◌⊎◌, inl, inr, ⊎_elim, ℕ, zero, suc, ◌≤◌, Bool, true, false, List, [], ◌∷◌, length, Option, Some, None, refl, sym, ◌∙◌, ap, subst, arith}
+use Rattle.std.proofs.Common.{◌≡◌, ◌⊎◌, inl, inr, ⊎_elim, ℕ, zero, suc, ◌≤◌, Bool, true, false, List, [], ◌∷◌, length, Option, Some, None, refl, sym, ◌∙◌, ap, subst}
 use Rattle.std.specs.Prelude.{OnOk, IfErr, IfOk, IsTrue, Result, Ok, Err, ◌&&◌, ◌==◌, not, is_some, option_and_then, option_map, replicate}
 use Rattle.std.specs.List.{list_any}
 use Rattle.std.proofs.lemmas.List.{append-nil}
@@ -12,10 +12,9 @@ use Rattle.volume_layout.specs.Root.{root_bytes}
 use Rattle.fsd_bytes.specs.declared.refusal.Refusal.{Refusal}
 use Rattle.fsd_bytes.specs.declared.refusal.Refusal.TheVariants as Why
 use Rattle.sector_disk.specs.declared.machine.Machine.{Ghosts}
-use Rattle.sector_disk.specs.declared.sector.WeakRun.{WeakRun}
 use Rattle.sector_disk.specs.declared.sector.Sector.TheVariants.{Whole, Damaged}
-use Rattle.sector_disk.specs.Calls.{IsTimed, Since, WritesDisk}
-use Rattle.sector_disk.specs.Image.{AllWorn, AreShort, IsWorn, Windows, open_damage, sector_at}
+use Rattle.sector_disk.specs.Calls.{IsTimed, Since}
+use Rattle.sector_disk.specs.Image.{AreShort, IsWorn, open_damage, sector_at}
 use Rattle.sector_disk.specs.Machine.{LeavesOnly, Moment}
 use Rattle.fsd_log.specs.Scan.{Head, Placed}
 use Rattle.fsd_files.specs.Answers.{Outcome, upgraded as upgrade_outcome_of}
@@ -23,13 +22,11 @@ use Rattle.fsd_files.specs.Disk.{Image, Sectors, Has, Touches, nowhere}
 use Rattle.fsd_files.specs.declared.reply.Reply.{Reply}
 use Rattle.fsd_files.specs.declared.reply.Reply.TheVariants as Said
 use Rattle.fsd_files.specs.Volume.{Volume}
-use Rattle.fsd_sound.specs.Laid.{HasOwnRoots}
 use Rattle.fsd_sound.specs.Mounted.{Mounted, telling_of}
 use Rattle.fsd_sound.specs.Writes.{force_writes}
 use Rattle.fsd_sound.specs.Shown.{told}
-use Rattle.fsd_sound.specs.Sound.{EndIn, IsRootAt, IsSound, SaysTurned, weak_of}
-use Rattle.fsd_table.specs.Table.{Telling, told_in}
-use Rattle.fsd_sound.proofs.MountedLaws.{mounted_lasts}
+use Rattle.fsd_sound.specs.Sound.{IsRootAt, IsSound, SaysTurned, weak_of}
+use Rattle.fsd_table.specs.Table.{told_in}
 use Rattle.fsd_sound.proofs.TurnedLaws.{shown_turned}
 use Rattle.fsd_runs.specs.Commands.{reply_alone}
 use Rattle.fsd_texts.specs.declared.command.Command.TheVariants as Word
@@ -41,9 +38,9 @@ use Rattle.volume_contract.specs.Upgrade.{EndsUpgrade, RootsStand, is_fresh, upg
 use Rattle.volume_turns.specs.declared.turns.Halt.{Halt}
 use Rattle.volume_turns.specs.declared.turns.Halt.TheVariants.{Fault as Stopped}
 use Rattle.volume_turns.specs.Answering.{MayAnswer, AnswersAlone, SaysBy}
-use Rattle.volume_turns.specs.Once.{ClosesAndSaysBy, IsAlone, unit_of}
+use Rattle.volume_turns.specs.Once.{IsAlone, unit_of}
 use Rattle.scrub.specs.Telling.{AreOfPage}
-use Rattle.volume_turns.specs.Steps.{Does, IsToldOn, Stays, StaysSoundFor, ended_by}
+use Rattle.volume_turns.specs.Steps.{Does, IsToldOn, Stays, ended_by}
 use Rattle.volume_turns.specs.Turns.{OnDisk, SaysAll, Unsaid, UttersBehind}
 use Rattle.volume_turns.specs.Upgrade.{EndsState, is_upgraded}
 use Rattle.volume_turns.proofs.AnsweringLaws.{alone_closed, closed_by}

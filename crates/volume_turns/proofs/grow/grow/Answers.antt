@@ -9,7 +9,7 @@ use Rattle.volume_contract.specs.State.{State}
 use Rattle.fsd_files.specs.declared.reply.Reply.{Reply}
 use Rattle.fsd_files.specs.declared.reply.Reply.TheVariants as Said
 use Rattle.volume_turns.specs.Answering.{MayAnswer}
-use Rattle.volume_turns.specs.Grow.{EndsGrown, GrowsTo}
+use Rattle.volume_turns.specs.Grow.{EndsGrown}
 use Rattle.volume_turns.specs.Reasons.{BecauseGrown}
 use Rattle.volume_turns.specs.Steps.{Does, IsOfCall, Stays, device_by}
 use Rattle.volume_turns.proofs.GrowLaws.{fits_so, grow_kept, grow_refused, grown_does, kept_does, longer_stays, may_refuse, refused_as, stands_kept}

@@ -14,10 +14,9 @@ use Rattle.volume_turns.specs.Commands.{IsStatusFrom}
 use Rattle.volume_turns.specs.Once.{ClosesAndSays, unit_of}
 use Rattle.volume_turns.specs.Steps.{Does}
 use Rattle.volume_turns.specs.Turns.{WantsNone}
-
 use Rattle.volume_turns.proofs.AnsweringLaws.{alone_closed, says_so}
 use Rattle.volume_turns.proofs.LineLaws.{wants_not}
-use Rattle.volume_turns.proofs.LongerLaws.{wrote, wrote_longer}
+use Rattle.volume_turns.proofs.LongerLaws.{wrote_longer}
 use Rattle.volume_turns.proofs.OnceLaws.{alone_answered, alone_fault, alone_unbegun, answered_held}
 use Rattle.volume_turns.proofs.SayLaws.{timed_by}
 use Rattle.volume_turns.proofs.StatusLaws.{status_at}
