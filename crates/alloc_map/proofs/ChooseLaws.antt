@@ -5,8 +5,7 @@ use Rattle.std.proofs.lemmas.Bool.{le-leb, lt-leb, le-ltb}
 use Rattle.run_table.specs.declared.run.Run.{Run}
 use Rattle.run_table.specs.RunTable.{run_of, total}
 use Rattle.run_table.specs.Space.{runs_of, by_length, longest_first, longest, best, pick, picked, cut_to}
-use Rattle.run_table.proofs.SectorLaws.{total-cons}
-use Rattle.sector_set.proofs.FreeLaws.{total_of_runs}
+use Rattle.run_table.proofs.SectorLaws.{total-cons, total_of_runs}
 use Rattle.alloc_map.specs.declared.no_place.NoPlace.TheVariants.{NoSpace, TooFragmented}
 use Rattle.alloc_map.specs.NoPlace.{choice, picked_or}
 

@@ -3,7 +3,6 @@ pub mod ChangeLaws
 pub mod CountLaws
 pub mod EachLaws
 pub mod FreshLaws
-pub mod GrownLaws
 pub mod HistoryLaws
 pub mod KeptLaws
 pub mod LeaderLaws

@@ -1,5 +1,5 @@
 -- Laws of lists of sectors and of the sectors of runs: what lies among them, and how many they are.
-use Rattle.std.proofs.Common.{◌≡◌, ℕ, ◌+◌, Bool, true, ◌||◌, List, [], ◌∷◌, ◌++◌, length, subst, inl, inr, arith, refl}
+use Rattle.std.proofs.Common.{◌≡◌, ℕ, ◌+◌, Bool, true, false, cond, ◌||◌, List, [], ◌∷◌, ◌++◌, length, subst, inl, inr, arith, refl}
 use Rattle.std.specs.Prelude.{◌==◌}
 use Rattle.std.specs.List.{AllByRecursion, list_all, range_with_len}
 use Rattle.std.proofs.lemmas.Bool.{and_from, eq-eqb, eqb-true, or_cases, or_left, or_right, and_parts}
@@ -8,8 +8,8 @@ use Rattle.std.proofs.lemmas.List.Folds.{list_any-append}
 use Rattle.std.proofs.lemmas.List.FromFn.{length-range_with_len}
 use Rattle.std.proofs.lemmas.List.Sums.{sum_by-cons}
 use Rattle.run_table.specs.declared.run.Run.{Run}
-use Rattle.run_table.specs.RunTable.{sectors_of, total}
-use Rattle.run_table.specs.Space.{contains}
+use Rattle.run_table.specs.RunTable.{run_of, sectors_of, total}
+use Rattle.run_table.specs.Space.{contains, joined, runs_of}
 
 -- `total` is std's `sum_by`, which goes from the left
 pub total-cons : (r : Run) (runs : List Run) → total (r ∷ runs) ≡ r.length + total runs
@@ -55,3 +55,15 @@ all_in p (x ∷ xs) s all there =
       | inl here ↦ subst (λ (t : ℕ). p t ≡ true) (eqb-true x s here) parts.0
       | inr more ↦ all_in p xs s parts.1 more
     ]
+
+total_of_joined : (s : ℕ) (runs : List Run) → total (joined s runs) ≡ total runs + 1
+total_of_joined s [] = omega arith
+total_of_joined s (r ∷ runs) = by (s + 1 == r.start)
+  where
+    by : (b : Bool) → total (cond b (run_of s (r.length + 1) ∷ runs) (run_of s 1 ∷ r ∷ runs)) ≡ total (r ∷ runs) + 1
+    by true = omega (arith, total-cons (run_of s (r.length + 1)) runs, total-cons r runs)
+    by false = omega (arith, total-cons (run_of s 1) (r ∷ runs))
+
+pub total_of_runs : (xs : List ℕ) → total (runs_of xs) ≡ length xs
+total_of_runs [] = refl
+total_of_runs (s ∷ xs) = omega (arith, total_of_joined s (runs_of xs), total_of_runs xs)

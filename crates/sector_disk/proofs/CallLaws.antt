@@ -161,6 +161,21 @@ module _ {D : Type 0} {M : Ghosts D} {a b : D} where
     any_moment = λ h. leaves_more M.moment M.left_since a b (P (M.now a)) (R (M.now a)) (more h) (w.any_moment h);
   }
 
+  -- so it is where the image may have got more sectors
+  pub grows_more : {fault : Option ℕ} {P R : Moment → Moment → Type 0} → GrowsDisk M fault P a b → (M.honest b → (left : Moment) → P (M.now a) left → R (M.now a) left) → GrowsDisk M fault R a b
+  grows_more {fault = fault} {P = P} {R = R} w more = record {
+    sectors = w.sectors;
+    uses = w.uses;
+    faults = w.faults;
+    trust = w.trust;
+    ledger = w.ledger;
+    quiet = w.quiet;
+    windows = w.windows;
+    exit = λ h. more h (M.now b) (w.exit h);
+    since = w.since;
+    any_moment = λ h. leaves_more M.moment M.left_since a b (P (M.now a)) (R (M.now a)) (more h) (w.any_moment h);
+  }
+
   -- a call that only reads, as one that might have written
   pub reads_as_writes : {fault : Option ℕ} {R : Moment → Moment → Type 0} → OnlyReads M fault a b → (M.honest b → (left : Moment) → Wears (M.now a) left → R (M.now a) left) → WritesDisk M fault R a b
   reads_as_writes {fault = fault} {R = R} r wears = record {

@@ -8,9 +8,9 @@ use Rattle.std.proofs.lemmas.List.Sums.{sum_by-cons}
 use Rattle.run_table.specs.declared.run.Run.{Run}
 use Rattle.run_table.specs.RunTable.{run_of, total, sectors_of}
 use Rattle.run_table.specs.Space.{contains, all_differ, where_free, runs_of}
-use Rattle.run_table.proofs.SectorLaws.{contains-cons}
+use Rattle.run_table.proofs.SectorLaws.{contains-cons, total_of_runs}
 use Rattle.sector_set.specs.SectorSet.{SectorsBelow, set_of, in_run, free_runs_from, IsFirstRun}
-use Rattle.sector_set.proofs.FreeLaws.{where_same, contains_where, contains_where_outside, contains_range, total_of_runs}
+use Rattle.sector_set.proofs.FreeLaws.{where_same, contains_where, contains_where_outside, contains_range}
 use Rattle.sector_set.proofs.SetLaws.{contains_below}
 use Rattle.sector_set.specs.Area.{Area, area, without_sectors, together, AreIn, AreOut, IsThere, CountsFree, IsOwn, left_of, IsFirstOf}
 use Rattle.sector_set.proofs.CountLaws.{none_where, count_without, count_together, no_more_than}

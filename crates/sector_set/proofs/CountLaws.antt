@@ -7,8 +7,8 @@ use Rattle.std.proofs.lemmas.List.FromFn.{length-range_with_len}
 use Rattle.run_table.specs.declared.run.Run.{Run}
 use Rattle.run_table.specs.RunTable.{run_of, total, sectors_of}
 use Rattle.run_table.specs.Space.{contains, all_differ, where_free}
-use Rattle.run_table.proofs.SectorLaws.{length_of_sectors}
-use Rattle.sector_set.proofs.FreeLaws.{where_same, total_of_runs, no_run, first_run}
+use Rattle.run_table.proofs.SectorLaws.{length_of_sectors, total_of_runs}
+use Rattle.sector_set.proofs.FreeLaws.{where_same, no_run, first_run}
 
 -- those that pass a second test, and the others
 split : (f p : ℕ → Bool) (xs : List ℕ) → length (filter f xs) ≡ length (filter (λ s. f s && p s) xs) + length (filter (λ s. f s && not (p s)) xs)

@@ -1,14 +1,13 @@
 -- The sectors of an interval that pass a test, and their runs.
-use Rattle.std.proofs.Common.{◌≡◌, ℕ, zero, suc, ◌+◌, ◌-◌, ◌<◌, ◌≤◌, Bool, true, false, cond, ◌&&◌, ◌||◌, List, [], ◌∷◌, length, filter, refl, sym, ap, ◌∙◌, inl, inr, arith}
+use Rattle.std.proofs.Common.{◌≡◌, ℕ, zero, suc, ◌+◌, ◌-◌, ◌<◌, ◌≤◌, Bool, true, false, cond, ◌&&◌, ◌||◌, List, [], ◌∷◌, filter, refl, sym, ap, ◌∙◌, inl, inr, arith}
 use Rattle.std.proofs.Math.Bool.{and-true, and-false}
 use Rattle.std.specs.Prelude.{nat_le, nat_lt, ◌==◌}
 use Rattle.std.specs.List.{range_with_len}
 use Rattle.std.proofs.lemmas.Bool.{cases_Bool, cases_lt, leb-true, eqb-true, eqb-false, eq-eqb, le-leb, lt-ltb, le-ltb, ne_eqb}
 use Rattle.std.proofs.lemmas.Bool.Decides.{nat_tests}
 use Rattle.run_table.specs.declared.run.Run.{Run}
-use Rattle.run_table.specs.RunTable.{run_of, total}
+use Rattle.run_table.specs.RunTable.{run_of}
 use Rattle.run_table.specs.Space.{contains, where_free, joined, runs_of}
-use Rattle.run_table.proofs.SectorLaws.{total-cons}
 
 -- ---- tests that agree
 
@@ -99,18 +98,6 @@ contains_range a n s = ap (λ (xs : List ℕ). contains xs s) (sym (all_of a n))
     all_of a (suc n) = ap (λ (xs : List ℕ). a ∷ xs) (all_of (a + 1) n)
 
 -- ---- as many as the runs have
-
-total_of_joined : (s : ℕ) (runs : List Run) → total (joined s runs) ≡ total runs + 1
-total_of_joined s [] = omega arith
-total_of_joined s (r ∷ runs) = by (s + 1 == r.start)
-  where
-    by : (b : Bool) → total (cond b (run_of s (r.length + 1) ∷ runs) (run_of s 1 ∷ r ∷ runs)) ≡ total (r ∷ runs) + 1
-    by true = omega (arith, total-cons (run_of s (r.length + 1)) runs, total-cons r runs)
-    by false = omega (arith, total-cons (run_of s 1) (r ∷ runs))
-
-pub total_of_runs : (xs : List ℕ) → total (runs_of xs) ≡ length xs
-total_of_runs [] = refl
-total_of_runs (s ∷ xs) = omega (arith, total_of_joined s (runs_of xs), total_of_runs xs)
 
 -- ---- the first run
 

@@ -8,9 +8,9 @@ use Rattle.std.proofs.lemmas.List.Sums.{sum_by-cons}
 use Rattle.run_table.specs.declared.run.Run.{Run}
 use Rattle.run_table.specs.RunTable.{run_of, total, sectors_of}
 use Rattle.run_table.specs.Space.{contains, all_differ, where_free, joined, runs_of}
-use Rattle.run_table.proofs.SectorLaws.{contains-append}
+use Rattle.run_table.proofs.SectorLaws.{contains-append, total_of_runs}
 use Rattle.sector_set.specs.Area.{Area, area, without_sectors, together, AreIn, AreOut, IsOwn}
-use Rattle.sector_set.proofs.FreeLaws.{where_same, contains_range, total_of_runs}
+use Rattle.sector_set.proofs.FreeLaws.{where_same, contains_range}
 use Rattle.sector_set.proofs.CountLaws.{count_without, no_more_than, split_where}
 use Rattle.sector_set.proofs.AreaLaws.{free_within, free_passes}
 use Rattle.shadow_frees.specs.Waits.{AreDisjoint, run_between}

@@ -12,11 +12,9 @@ use Rattle.fsd_bytes.specs.declared.refusal.Refusal.TheVariants as Why
 use Rattle.sector_disk.specs.declared.sector.Sector.{Sector}
 use Rattle.sector_disk.specs.Image.{AreShort, IsWorn, extended, open_damage, sector_at, stand}
 use Rattle.sector_disk.specs.Machine.{Extends, Grows, Holds as HoldsImage, Moment}
-use Rattle.sector_disk.specs.Calls.{GrowsDisk}
 use Rattle.sector_disk.specs.declared.machine.Machine.{Ghosts}
 use Rattle.sector_disk.proofs.Extended.{extended_at, length-extended}
 use Rattle.sector_disk.proofs.Holding.{over_two}
-use Rattle.sector_disk.proofs.Moments.{leaves_more}
 use Rattle.sector_disk.proofs.Wear.{stand_other, worn_refl}
 use Rattle.fsd_log.specs.Scan.{Walked}
 use Rattle.fsd_files.specs.Answers.{grow_fault}
@@ -125,21 +123,6 @@ module _ (n : ℕ) (old mid left : Moment) (extends : Extends n old mid) where
     once_more = roots.once_more;
     holds = over_longer bytes roots.first roots.second roots.holds;
   }
-
--- a stop leaves more of a call that may give the image more sectors
-pub grows_more : {D : Type 0} {M : Ghosts D} {a b : D} {fault : Option ℕ} {P R : Moment → Moment → Type 0} → GrowsDisk M fault P a b → (M.honest b → (left : Moment) → P (M.now a) left → R (M.now a) left) → GrowsDisk M fault R a b
-grows_more {M = M} {a = a} {b = b} {P = P} {R = R} g more = record {
-  sectors = g.sectors;
-  uses = g.uses;
-  faults = g.faults;
-  trust = g.trust;
-  ledger = g.ledger;
-  quiet = g.quiet;
-  windows = g.windows;
-  exit = λ h. more h (M.now b) (g.exit h);
-  since = g.since;
-  any_moment = λ h. leaves_more M.moment M.left_since a b (P (M.now a)) (R (M.now a)) (more h) (g.any_moment h);
-}
 
 -- ---- a volume that stands
 

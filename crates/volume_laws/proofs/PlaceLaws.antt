@@ -13,13 +13,12 @@ use Rattle.run_table.specs.declared.run.Run.{Run}
 use Rattle.run_table.specs.RunTable.{are_runs, sectors_of, total, run_of}
 use Rattle.run_table.specs.Space.{contains, where_free, joined, runs_of, by_length, longest_first, cut_to, longest, best, picked, pick}
 use Rattle.run_table.proofs.ChoiceLaws.{total_of_pick, pick_none}
-use Rattle.run_table.proofs.SectorLaws.{total-cons}
+use Rattle.run_table.proofs.SectorLaws.{total-cons, total_of_runs}
 use Rattle.alloc_map.specs.NoPlace.{choice, picked_or}
 use Rattle.alloc_map.specs.declared.no_place.NoPlace.{NoPlace}
 use Rattle.alloc_map.specs.declared.no_place.NoPlace.TheVariants.{NoSpace as Few, TooFragmented as Broken}
 use Rattle.alloc_map.proofs.ChooseLaws.{best_within}
 use Rattle.sector_set.specs.Area.{Area, AreIn}
-use Rattle.sector_set.proofs.FreeLaws.{total_of_runs}
 use Rattle.version_data.proofs.PlaceLaws.{index_there}
 use Rattle.volume_layout.specs.declared.layout.Layout.{Layout}
 use Rattle.fsd_files.proofs.CountLaws.{occurs, contains_occurs, occurs_differ, picked_once}

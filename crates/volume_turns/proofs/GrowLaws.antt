@@ -9,7 +9,7 @@ use Rattle.volume_layout.specs.declared.layout.Layout.{Layout}
 use Rattle.volume_layout.specs.Layout.{most_of}
 use Rattle.run_table.specs.declared.run.Run.{Run}
 use Rattle.run_table.specs.RunTable.{sectors_of, total}
-use Rattle.run_table.proofs.SectorLaws.{length_of_sectors}
+use Rattle.run_table.proofs.SectorLaws.{length_of_sectors, total_of_runs}
 use Rattle.fsd_bytes.specs.declared.refusal.Refusal.{Refusal}
 use Rattle.fsd_bytes.specs.declared.refusal.Refusal.TheVariants as Why
 use Rattle.sector_disk.specs.declared.machine.Machine.{Ghosts}
@@ -22,7 +22,6 @@ use Rattle.fsd_files.specs.Disk.{Image, Sectors, Touches, nowhere}
 use Rattle.fsd_files.specs.declared.reply.Reply.{Reply}
 use Rattle.fsd_files.specs.declared.reply.Reply.TheVariants as Said
 use Rattle.fsd_files.specs.Volume.{Volume, free_count}
-use Rattle.fsd_files.proofs.GrownLaws.{total_runs}
 use Rattle.fsd_sound.specs.Mounted.{Mounted, telling_of}
 use Rattle.fsd_sound.specs.Writes.{force_writes}
 use Rattle.fsd_sound.specs.Shown.{told}
@@ -127,7 +126,7 @@ more_total from to runs =
     let long = length-append (sectors_of runs) (range_with_len from (to - from)) in
     let some = length_of_sectors runs in
     let more = length-range_with_len from (to - from) in
-    total_runs (sectors_of runs ++ range_with_len from (to - from)) ∙ (let sum : length (sectors_of runs ++ range_with_len from (to - from)) ≡ total runs + (to - from) = omega (arith, long, some, more) in sum)
+    total_of_runs (sectors_of runs ++ range_with_len from (to - from)) ∙ (let sum : length (sectors_of runs ++ range_with_len from (to - from)) ≡ total runs + (to - from) = omega (arith, long, some, more) in sum)
 
 -- as many as were said before it
 pub free_told : (n free : ℕ) (s t : State) → GrowsTo n free s t → (said : ℕ) → said ≡ min (total s.free + (n - s.layout.sectors)) (2 ^ 32 - 1) → said ≡ free

@@ -4,7 +4,6 @@ use Rattle.sector_disk.specs.declared.machine.Machine.{Ghosts}
 use Rattle.sector_disk.specs.Calls.{GrowsDisk, Since, WritesDisk}
 use Rattle.sector_disk.specs.Image.{IsWorn, Windows, open_damage, sector_at}
 use Rattle.sector_disk.specs.Machine.{LeavesOnly, Moment}
-use Rattle.sector_disk.proofs.Moments.{leaves_more}
 use Rattle.fsd_files.specs.Disk.{Sectors, SectorWorn, Touches, TouchesLonger, nowhere}
 use Rattle.fsd_texts.specs.declared.command.Command.{Command}
 use Rattle.fsd_texts.specs.declared.command.Command.TheVariants as Word
@@ -71,17 +70,3 @@ module _ {D : Type 0} {M : Ghosts D} {R : Moment → Moment → Type 0} {fault :
   pub wrote_longer : GrowsDisk M fault R a b → Wrote M R a b
   wrote_longer w = record { back = w.trust.honest; quiet = w.quiet; windows = w.windows; exit = w.exit; since = w.since; any_moment = w.any_moment }
 
--- a stop leaves more
-pub grows_more : {D : Type 0} {M : Ghosts D} {a b : D} {fault : Option ℕ} {P R : Moment → Moment → Type 0} → GrowsDisk M fault P a b → (M.honest b → (left : Moment) → P (M.now a) left → R (M.now a) left) → GrowsDisk M fault R a b
-grows_more {M = M} {a = a} {b = b} {P = P} {R = R} w more = record {
-  sectors = w.sectors;
-  uses = w.uses;
-  faults = w.faults;
-  trust = w.trust;
-  ledger = w.ledger;
-  quiet = w.quiet;
-  windows = w.windows;
-  exit = λ h. more h (M.now b) (w.exit h);
-  since = w.since;
-  any_moment = λ h. leaves_more M.moment M.left_since a b (P (M.now a)) (R (M.now a)) (more h) (w.any_moment h);
-}

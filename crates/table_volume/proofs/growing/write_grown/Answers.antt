@@ -3,10 +3,10 @@ use Rattle.std.proofs.lemmas.Result.{on_ok_weaker}
 use Rattle.volume_layout.specs.Root.{root_bytes}
 use Rattle.sector_disk.specs.Calls.{GrowsDisk, device_in, failed_at}
 use Rattle.sector_disk.specs.Machine.{Grows}
-use Rattle.sector_disk.proofs.CallLaws.{grows_then, grows_told, told_up, writes_as_grows}
+use Rattle.sector_disk.proofs.CallLaws.{grows_more, grows_then, grows_told, told_up, writes_as_grows}
 use Rattle.twin_home.specs.Heal.{RootsIn}
 use Rattle.table_volume.specs.Growing.{GrowsRoots, HasGrownRoots}
-use Rattle.table_volume.proofs.GrowLaws.{grow_first, grow_then, grows_more, over_longer}
+use Rattle.table_volume.proofs.GrowLaws.{grow_first, grow_then, over_longer}
 use Rattle.table_volume.proofs.growing.write_grown.Goals as goal
 
 pub returns-in_err-extend_image-clause-grows : goal.returns-in_err-extend_image-clause-grows

@@ -3,6 +3,7 @@ use Rattle.std.specs.Prelude.{IfErr, IfOk, Result, Ok}
 use Rattle.fsd_texts.specs.declared.command.Command.TheVariants as Word
 use Rattle.fsd_texts.specs.declared.fault.Fault.{Fault}
 use Rattle.sector_disk.specs.Calls.{GrowsDisk}
+use Rattle.sector_disk.proofs.CallLaws.{grows_more}
 use Rattle.volume_contract.specs.Ends.{device_of}
 use Rattle.volume_contract.specs.Order.{is_root}
 use Rattle.volume_contract.specs.State.{State}
@@ -13,7 +14,6 @@ use Rattle.volume_turns.specs.Grow.{EndsGrown}
 use Rattle.volume_turns.specs.Reasons.{BecauseGrown}
 use Rattle.volume_turns.specs.Steps.{Does, IsOfCall, Stays, device_by}
 use Rattle.volume_turns.proofs.GrowLaws.{fits_so, grow_kept, grow_refused, grown_does, kept_does, longer_stays, may_refuse, refused_as, stands_kept}
-use Rattle.volume_turns.proofs.LongerLaws.{grows_more}
 use Rattle.volume_turns.proofs.NumberLaws.{goes_none, goes_still}
 use Rattle.volume_turns.proofs.ReasonLaws.{refused_written}
 use Rattle.volume_turns.proofs.grow.grow.Goals as goal

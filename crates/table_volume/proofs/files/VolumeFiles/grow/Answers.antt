@@ -4,11 +4,11 @@ use Rattle.volume_layout.specs.declared.layout.Layout.{Layout}
 use Rattle.volume_layout.specs.Layout.{most_of, with_sectors}
 use Rattle.volume_layout.specs.Root.{root_bytes}
 use Rattle.volume_layout.proofs.RootLaws.{planned_bounds}
-use Rattle.sector_set.proofs.FreeLaws.{total_of_runs}
+use Rattle.run_table.proofs.SectorLaws.{total_of_runs}
 use Rattle.fsd_bytes.specs.declared.refusal.Refusal.{Refusal}
 use Rattle.sector_disk.specs.Image.{AreShort, open_damage}
 use Rattle.sector_disk.specs.Machine.{Moment}
-use Rattle.sector_disk.proofs.CallLaws.{grows_told, told_up, writes_as_grows, writes_none}
+use Rattle.sector_disk.proofs.CallLaws.{grows_more, grows_told, told_up, writes_as_grows, writes_none}
 use Rattle.sector_disk.proofs.Extended.{length-extended}
 use Rattle.fsd_files.specs.Disk.{TouchesLonger}
 use Rattle.fsd_sound.specs.Laid.{StandsTwice}
@@ -22,7 +22,7 @@ use Rattle.volume_laws.specs.Volume.{IsWholeVolume, VolumeValue}
 use Rattle.volume_laws.proofs.GrowthLaws.{state_grown}
 use Rattle.volume_laws.proofs.StepLaws.{comes_more}
 use Rattle.table_volume.specs.Growing.{GrowsRoots, HasGrownRoots, grow_tests, longer}
-use Rattle.table_volume.proofs.GrowLaws.{busy_growth, grow_leaves, grow_still, grow_tested, grow_touches, grows_between, grows_more, stands_grown}
+use Rattle.table_volume.proofs.GrowLaws.{busy_growth, grow_leaves, grow_still, grow_tested, grow_touches, grows_between, stands_grown}
 use Rattle.table_volume.proofs.UpgradeLaws.{roots_stand}
 use Rattle.table_volume.proofs.files.VolumeFiles.grow.Given as given
 use Rattle.table_volume.proofs.files.VolumeFiles.grow.Goals.{After-write_grown}

@@ -1,7 +1,7 @@
 use Rattle.std.proofs.Common.{length, sym, ap, ◌∙◌}
 use Rattle.run_table.specs.RunTable.{total}
 use Rattle.run_table.specs.Space.{runs_of}
-use Rattle.sector_set.proofs.FreeLaws.{total_of_runs}
+use Rattle.run_table.proofs.SectorLaws.{total_of_runs}
 use Rattle.volume_laws.specs.State.{spare_pages}
 use Rattle.volume_laws.specs.Volume.{VolumeValue}
 use Rattle.volume_laws.proofs.CountLaws.{count_of_flags}
