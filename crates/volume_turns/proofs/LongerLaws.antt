@@ -69,4 +69,3 @@ module _ {D : Type 0} {M : Ghosts D} {R : Moment → Moment → Type 0} {fault :
 
   pub wrote_longer : GrowsDisk M fault R a b → Wrote M R a b
   wrote_longer w = record { back = w.trust.honest; quiet = w.quiet; windows = w.windows; exit = w.exit; since = w.since; any_moment = w.any_moment }
-
