@@ -1,7 +1,8 @@
 //! Growth of a volume: what it says, what a stop, a fault or wear in it leaves, and what is put and read where it has grown.
-//! Each volume has its roots at 0 and 4, and one sector of map, which has bits for 3968 sectors.
+//! Each volume has its roots at 0 and 4, and, but for the one that says how far it may grow, one sector of map, which has
+//! bits for 3968 sectors.
 use crate::machines::{
-    Met, Row, calm, first_wrong, first_wrong_met, formatted, run, run_behind, weak,
+    Met, Row, calm, first_wrong, first_wrong_met, formatted, goes, run, run_behind, weak,
 };
 use crate::stops::{SMALL, SMALL_TWO};
 use memory_machine::{Event, MemoryMachine, When};
@@ -39,12 +40,7 @@ const WIDE: Row<'static> = (
     "stat free 3047 waiting 0 pages 63 versions 0\n",
 );
 
-// A version that the sectors of before have no room for.
-const BYTES: &[u8] = &[7; 700_000];
-
-const PUT: Row<'static> = ("cfs put v a", BYTES, 0, "made a!1 1369\n");
-
-const GROWTH: [Row<'static>; 11] = [
+const GROWTH: [Row<'static>; 8] = [
     ("cfs grow v 3969", b"", 1, "refused most 3968\n"),
     ("cfs grow v 2048", b"", 1, "refused size 2048\n"),
     ("cfs grow v 0", b"", 1, "refused size 0\n"),
@@ -53,27 +49,46 @@ const GROWTH: [Row<'static>; 11] = [
     GROWN,
     WIDE,
     GREW,
-    ("cfs put v b", &[7; 577_024], 0, "made b!1 1128\n"),
-    ("cfs delete v b!1", b"", 0, "deleted b!1\n"),
-    PUT,
 ];
-
-// Whether these lines go well on a volume of either layout, and the version can be read behind them.
-fn holds_bytes(alloc: Global, rows: &[Row]) -> Result<bool, AllocError> {
-    for format in [ONE, TWO] {
-        let (m, wrong) = first_wrong(alloc, calm(alloc, formatted(alloc, format)?), rows)?;
-        let sectors = m.image().len();
-        let (m, status) = run(alloc, m, &[], "cfs get v a!1", b"")?;
-        if wrong.is_some() || sectors != 3968 || status != 0 || m.said() != BYTES {
-            return Ok(false);
-        }
-    }
-    Ok(true)
-}
 
 #[test]
 fn a_volume_grows_to_its_most(rt: HostRuntime) -> Result<(), Fail> {
-    assert_eq!(rt; holds_bytes(rt.alloc(), &GROWTH)?, true);
+    let alloc = rt.alloc();
+    for format in [ONE, TWO] {
+        let (m, wrong) = first_wrong(alloc, calm(alloc, formatted(alloc, format)?), &GROWTH)?;
+        assert_eq!(rt; wrong, None, "{format}");
+        assert_eq!(rt; m.image().len(), 3968);
+    }
+    Ok(())
+}
+
+// So many bytes take a sector more than a small volume has free.
+const LENGTH: usize = 32_257;
+
+// Whether a version is made that wants these sectors, and read.
+fn takes_a_version(alloc: Global, m: MemoryMachine) -> Result<bool, AllocError> {
+    let bytes = vec![in alloc; 7u8; LENGTH]?;
+    let (m, status) = run(alloc, m, &[], "cfs put v a", bytes.as_slice())?;
+    let made = status == 0 && m.said() == b"made a!1 65\n".as_slice();
+    let (m, status) = run(alloc, m, &[], "cfs get v a!1", b"")?;
+    Ok(made && status == 0 && m.said() == bytes.as_slice())
+}
+
+#[test]
+fn what_has_come_is_given_out(rt: HostRuntime) -> Result<(), Fail> {
+    let alloc = rt.alloc();
+    let bytes = vec![in alloc; 7u8; LENGTH]?;
+    for format in [SMALL, SMALL_TWO] {
+        let m = calm(alloc, formatted(alloc, format)?);
+        let (m, status) = run(alloc, m, &[], "cfs put v a", bytes.as_slice())?;
+        assert_eq!(rt;
+            (status, m.said()),
+            (1, b"refused no-space 65 64\n".as_slice())
+        );
+        let (m, status) = run(alloc, m, &[], "cfs grow v 722", b"")?;
+        assert_eq!(rt; (status, m.said()), (0, b"grown 722 free 65\n".as_slice()));
+        assert_eq!(rt; takes_a_version(alloc, m)?, true, "{format}");
+    }
     Ok(())
 }
 
@@ -138,8 +153,8 @@ const ROOT_FAILS: Event = Event::FailIn {
     stand: 0,
 };
 
-// What is said behind a stop or a fault, and where a volume has grown and was upgraded, or either was cut off.
-const STORIES: [&[Met<'static>]; 7] = [
+// What is said behind a stop or a fault.
+const STOPS: [&[Met<'static>]; 3] = [
     &[
         (&[FIRST_ROOT], (GROW, b"", 6, "")),
         (&[], NARROW),
@@ -154,28 +169,64 @@ const STORIES: [&[Met<'static>]; 7] = [
         (&[ROOT_FAILS], (GROW, b"", 4, "fault device 4\n")),
         (&[], WIDE),
     ],
-    &[(&[], GROWN), (&[], UPGRADED), (&[], WIDE), (&[], PUT)],
-    &[(&[], UPGRADED), (&[], GROWN), (&[], WIDE), (&[], PUT)],
-    &[
-        (&[SECOND_ROOT], (GROW, b"", 6, "")),
-        (&[], UPGRADED),
-        (&[], GREW),
-        (&[], PUT),
-    ],
-    &[
-        (&[SECOND_ROOT], (UPGRADE, b"", 6, "")),
-        (&[], GROWN),
-        (&[], (UPGRADE, b"", 1, "refused layout 2\n")),
-        (&[], PUT),
-    ],
 ];
 
 #[test]
 fn the_next_run_finds_a_volume_that_grew(rt: HostRuntime) -> Result<(), Fail> {
     let image = formatted(rt.alloc(), ONE)?;
-    for (i, rows) in STORIES.iter().enumerate() {
+    for (i, rows) in STOPS.iter().enumerate() {
         let m = calm(rt.alloc(), image.to_vec(rt.alloc())?);
         assert_eq!(rt; first_wrong_met(rt.alloc(), m, rows)?, None, "{i}");
+    }
+    Ok(())
+}
+
+const GROWN_SMALL: Row<'static> = (GROW, b"", 0, "grown 3968 free 3311\n");
+
+// Where a small volume has grown and was upgraded, or either was cut off.
+const UPGRADES: [&[Met<'static>]; 4] = [
+    &[(&[], GROWN_SMALL), (&[], UPGRADED)],
+    &[(&[], UPGRADED), (&[], GROWN_SMALL)],
+    &[
+        (&[SECOND_ROOT], (GROW, b"", 6, "")),
+        (&[], UPGRADED),
+        (&[], GREW),
+    ],
+    &[
+        (&[SECOND_ROOT], (UPGRADE, b"", 6, "")),
+        (&[], GROWN_SMALL),
+        (&[], (UPGRADE, b"", 1, "refused layout 2\n")),
+    ],
+];
+
+// The machine behind these runs, where each goes well.
+fn behind(
+    alloc: Global,
+    m: MemoryMachine,
+    rows: &[Met],
+) -> Result<Option<MemoryMachine>, AllocError> {
+    let mut m = m;
+    for (events, row) in rows {
+        let (next, so) = goes(alloc, m, events, row)?;
+        if !so {
+            return Ok(None);
+        }
+        m = next;
+    }
+    Ok(Some(m))
+}
+
+#[test]
+fn a_growth_goes_on_beside_an_upgrade(rt: HostRuntime) -> Result<(), Fail> {
+    let alloc = rt.alloc();
+    let image = formatted(alloc, SMALL)?;
+    for (i, rows) in UPGRADES.iter().enumerate() {
+        let m = behind(alloc, calm(alloc, image.to_vec(alloc)?), rows)?;
+        let taken = match m {
+            Some(m) => takes_a_version(alloc, m)?,
+            None => false,
+        };
+        assert_eq!(rt; taken, true, "{i}");
     }
     Ok(())
 }

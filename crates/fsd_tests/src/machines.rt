@@ -58,7 +58,7 @@ pub(crate) fn run_behind(
 pub(crate) type Row<'a> = (&'a str, &'a [u8], u8, &'a str);
 
 // A line in a run with these events, and whether it ends so and no more wears than may.
-fn goes(
+pub(crate) fn goes(
     alloc: Global,
     m: MemoryMachine,
     events: &[Event],
