@@ -43,6 +43,7 @@ use Rattle.fsd_runs.specs.declared.span.Span.{Span}
 use Rattle.fsd_runs.specs.Errands.{Answered, ByFault, ByRefusal, BySector, Cut, Damages, Errand, MayCut, Turn, blank, cut_off, damage_turn, dumping, fault_status, first_refusal, load_of, nothing_but, refusal_of, refusing, restore_of, restored_unless, restoring, restoring_unless, said_turn}
 use Rattle.fsd_runs.specs.Runs.{IsRestoredSo, RefusesLast, answered, changes_in, said_in, turn_of, turns_of, turns_with}
 use Rattle.fsd_runs.specs.Sessions.{Meeting, answer_in, session_over}
+use Rattle.fsd_runs.proofs.RunLaws.{answered_none, said_parts}
 use Rattle.fsd_history.specs.History.{Ends, IsFull, LoadsAll, LoadsSome, Plays, Stops, load_change, loads_read, turns_in}
 
 -- ---- turns
@@ -68,10 +69,6 @@ behind_none e done none = by (length done == length e.commands)
     by false = (refl, tt)
 
 -- ---- dumps
-
-pub answered_none : (mets : List Meeting) (s : Session) → answered mets s [] ≡ []
-answered_none [] s = refl
-answered_none (x ∷ mets) s = refl
 
 module _ (since : Serial) (most : Option ℕ) (v : Volume) where
   abbrev dump_by : Result Span ℕ → Cut → Errand
@@ -469,10 +466,6 @@ restore_stops Shown input said s next (inr x) =
     (twice.0, x.files ∙ ap (fold step s) (ap (take x.found) first.1 ∙ twice.1))
 
 -- ---- a restore of a full dump
-
-said_parts : (parts : List (List ℕ)) → said_in (map said_turn parts) ≡ concat parts
-said_parts [] = refl
-said_parts (part ∷ parts) = ap (λ (bytes : List ℕ). part ++ bytes) (said_parts parts)
 
 -- a dump that ends with 0 has said all of it, and of a span
 record IsDumped (r : Result Span ℕ) (v : Volume) (said : List ℕ) : Type 0 where

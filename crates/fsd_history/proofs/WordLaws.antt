@@ -31,7 +31,8 @@ use Rattle.fsd_runs.specs.Sessions.{Meeting, session_over}
 use Rattle.cfs_program.specs.Drill.{list_text}
 use Rattle.cfs_program.specs.Program.{input_for}
 use Rattle.cfs_program.proofs.LifeLaws.{IsPutReply, all_versions, answered_once, list_is, listing, put_reply, reply_to, turn_for}
-use Rattle.fsd_history.proofs.DumpLaws.{answered_none, dump_ends, dump_stops, restore_ends, restore_stops}
+use Rattle.fsd_runs.proofs.RunLaws.{answered_none}
+use Rattle.fsd_history.proofs.DumpLaws.{dump_ends, dump_stops, restore_ends, restore_stops}
 use Rattle.fsd_history.specs.History.{Ends, EndsPlainly, Fails, HasShown, Life, Meets, PlainlySo, Plays, SaysVersion, Stops, StopsPlainly, Tells, TellsPlainly, TellsSo, turns_in}
 
 -- ---- one command
