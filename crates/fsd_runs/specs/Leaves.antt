@@ -17,7 +17,7 @@ use Rattle.fsd_sound.specs.Laid.{HasOwnRoots}
 use Rattle.fsd_sound.specs.Mounted.{telling_of}
 use Rattle.fsd_sound.specs.Mounting.{last_epoch}
 use Rattle.fsd_sound.specs.Shown.{told}
-use Rattle.fsd_sound.specs.Sound.{IsPrefixOf, IsSaid, IsSound, weak_of}
+use Rattle.fsd_sound.specs.Sound.{IsPrefixOf, IsSaid, IsSound, Says, weak_of}
 use Rattle.fsd_sound.specs.Windows.{IsNamedSince}
 use Rattle.fsd_texts.specs.declared.fault.Fault.{Fault}
 use Rattle.fsd_texts.specs.declared.fault.Fault.TheVariants as Ends
@@ -77,10 +77,11 @@ pub record LeftByTurns (l : Layout) (windows : List WeakRun) (run : WeakRun) (h 
   pub enough : forced_in (take whole turns) ≤ forced
   pub sound : IsSound l (windows ++ run ∷ []) (take n h ++ changes_in (take (suc whole) turns)) (n + forced) left.image
 
--- Of one command by itself: nothing is said but some first bytes of a fault's line, or none; or both roots are those of this
--- layout.
-abbrev pub LeavesRoots : Layout → Sectors → (old left : Moment) → Type 0
-LeavesRoots own weak old left = ((part : List ℕ) × SaysFault part × (left.said ≡ old.said ++ part)) ⊎ HasOwnRoots own weak left.image
+-- Of one command by itself: each layout that a root says is this one, or was said by one before. Nothing is said but some
+-- first bytes of a fault's line, or none; or both roots are those of this layout.
+pub record LeavesRoots (own : Layout) (weak : Sectors) (old left : Moment) : Type 0 where
+  pub says : (l : Layout) → Says l left.image → (l ≡ own) ⊎ Says l old.image
+  pub replied : ((part : List ℕ) × SaysFault part × (left.said ≡ old.said ++ part)) ⊎ HasOwnRoots own weak left.image
 
 -- where the words ask for one command by itself, which takes no input
 abbrev pub IfOne : Request → Type 0 → Type 0

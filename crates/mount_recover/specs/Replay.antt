@@ -12,7 +12,7 @@ use Rattle.fsd_sound.specs.Anchors.{anchor_of, fresh_anchor}
 use Rattle.fsd_sound.specs.Laid.{HasCopies, HasOwnLog}
 use Rattle.fsd_sound.specs.Saved.{ClosesNone, IsOpen}
 use Rattle.fsd_sound.specs.Shown.{records_by}
-use Rattle.fsd_sound.specs.Sound.{weak_of, IsSaid, ShowsPages}
+use Rattle.fsd_sound.specs.Sound.{weak_of, IsSaid, SaysNoMore, ShowsPages}
 use Rattle.fsd_sound.specs.Writes.{WritesAsMount}
 pub use Rattle.fsd_sound.specs.Homes.{StandAtHome}
 pub use Rattle.fsd_sound.specs.Logged.{copies_at, copies_of, KeepsLogged}
@@ -63,11 +63,12 @@ pub record IsBehindSettle (l : Layout) (windows : List WeakRun) (choices : List 
   pub opened : IsOpen left.image
 
 -- A moment of a mount: the last record has its copies before anything is written behind the log,
--- and nothing is written but where a mount writes.
+-- and nothing is written but where a mount writes. No root says a layout that none said before.
 pub record Replays (l : Layout) (windows : List WeakRun) (choices : List (List (List ℕ))) (old left : Moment) : Type 0 where
   pub stage : IsBefore l windows choices old left ⊎ IsBehindSettle l windows choices left
   pub order : KeepsBehindLog l (weak_of windows) old.image left.image ⊎ IsCompletedFrom l (weak_of windows) old.image left.image
   pub rest : WritesAsMount l (weak_of windows) old left
+  pub says : SaysNoMore old.image left.image
   pub said : left.said ≡ old.said
 
 -- each page of the list stands at both homes, but for what is weak

@@ -13,8 +13,7 @@ use Rattle.fsd_log.specs.Scan.{Placed}
 use Rattle.fsd_files.specs.Answers.{grown}
 use Rattle.fsd_files.specs.Disk.{Sectors, TouchesLonger}
 use Rattle.fsd_sound.specs.Mounted.{Mounted}
-use Rattle.fsd_sound.specs.Sound.{EachBeside, IsSound}
-use Rattle.volume_contract.specs.State.{Counted, Known, Stands, State, forced_of, volume_of}
+use Rattle.volume_contract.specs.State.{Counted, Known, LeavesRelaid, Stands, State, volume_of}
 
 -- ---- over any machine
 
@@ -39,21 +38,13 @@ pub record WritesLonger {D T : Type 0} (M : Ghosts D) (n : ℕ) (may : Sectors) 
 
 -- ---- over an honest machine
 
--- The disk is sound by the layout that the volume had, for the changes of before. A root that says another one says that
--- with so many sectors.
-pub record LeavesLonger (k : Known) (n : ℕ) (may : Sectors) (old left : Moment) : Type 0 where
-  pub sound : IsSound k.mounted.volume.layout k.windows k.changes (forced_of k) left.image
-  pub says : EachBeside k.mounted.volume.layout left.image (λ l. l ≡ with_sectors n k.mounted.volume.layout)
-  pub windows : left.windows ≡ old.windows
-  pub said : left.said ≡ old.said
-  pub touches : TouchesLonger n may old left
-
 abbrev pub grown_known : ℕ → Known → Known
 grown_known n k = record k { mounted = record k.mounted { volume = grown n (volume_of k) } }
 
 module _ {S : Type 0} (state : S → State) (has : S → Mounted → List Placed → Type 0) where
+  -- a root that says another layout says that with so many sectors
   abbrev pub LeavesGrown : ℕ → S → Sectors → (old left : Moment) → Type 0
-  LeavesGrown n s may old left = (k : Known) → Stands state has s k old → LeavesLonger k n may old left
+  LeavesGrown n s may old left = (k : Known) → Stands state has s k old → LeavesRelaid k (with_sectors n k.mounted.volume.layout) (TouchesLonger n may old left) old left
 
   -- it has grown, or doesn't, or the disk has failed
   abbrev pub EndsGrow : {T : Type 0} → ℕ → Known → S → Moment → Result T Refusal → Type 0

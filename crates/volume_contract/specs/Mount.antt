@@ -18,7 +18,7 @@ use Rattle.fsd_sound.specs.Homes.{home_of, HasBothHomes}
 use Rattle.fsd_sound.specs.Laid.{StandsTwice}
 use Rattle.fsd_sound.specs.Mounted.{Mounted, IsFreshlyMounted, telling_of}
 use Rattle.fsd_sound.specs.Shown.{all_pages, each_of, shown}
-use Rattle.fsd_sound.specs.Sound.{EndIn, IsPrefixOf, IsSaid, IsSound, weak_of}
+use Rattle.fsd_sound.specs.Sound.{EndIn, IsPrefixOf, IsSaid, IsSound, SaysNoMore, weak_of}
 use Rattle.fsd_sound.specs.declared.fault.MountFault.{MountFault}
 use Rattle.fsd_sound.specs.declared.fault.MountFault.TheVariants.{Device, Memory, NoAnchor, NotVolume, Unsound, WornOut}
 use Rattle.fsd_sound.specs.Lost.{AreCopiesOn, LosesShown, LostIn}
@@ -153,11 +153,13 @@ pub record IsSoundAt (sectors : ℕ) (l : Layout) (windows : List WeakRun) (h : 
   pub ends : EndIn now.windows windows
   pub sound : IsSound l windows h f now.image
 
--- Before it settles: the present window is as it was, and the disk is sound as it was.
+-- Before it settles: the present window is as it was, and the disk is sound as it was. No root says a layout that none said
+-- before.
 pub record SoundBefore (l : Layout) (windows : List WeakRun) (h : List Change) (f : ℕ) (old left : Moment) : Type 0 where
   pub present : left.windows.present ≡ old.windows.present
   pub said : left.said ≡ old.said
   pub sound : IsSound l windows h f left.image
+  pub says : SaysNoMore old.image left.image
   pub writes : WritesAsMount l (weak_of windows) old left
 
 -- Since then: run is the present window, no next one is named,
@@ -166,6 +168,7 @@ pub record SoundSince (l : Layout) (windows : List WeakRun) (run : WeakRun) (h :
   pub settled : left.windows ≡ record { present = Some run; next = None }
   pub said : left.said ≡ old.said
   pub sound : IsSound l (windows ++ run ∷ []) (take n h) n left.image
+  pub says : SaysNoMore old.image left.image
   pub writes : WritesAsMount l (λ s. weak_of windows s || in_weak_run run s) old left
 
 -- A moment of a mount that settled at this time: one up to it, or one since, with all that the mount wrote on the disk.

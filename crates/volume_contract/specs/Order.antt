@@ -122,8 +122,8 @@ IsDownBy (Why.Lost a b) old new = IsDownAt a old new
 IsDownBy why old new = ⊥
 
 -- The volume came to these steps so, and one of them refused: it is as it was at that step, which a serial drawn and a
--- force that ended before it have changed; or it is down, where a force or a write of a root has failed. The roots are the
--- last step of a call: behind them nothing refuses it.
+-- force that ended before it have changed; or it is down, where a force or a write of a root has failed, or the image could
+-- not get its sectors. The roots are the last step of a call: behind them nothing refuses it.
 abbrev pub KeepsRefused : List CallStep → Refusal → (at new : State) → Type 0
 KeepsRefused [] r at new = ⊥
 KeepsRefused (Draw ∷ steps) r at new = KeepsRefused steps r (with_drawn at) new

@@ -25,9 +25,10 @@ use Rattle.fsd_files.specs.Files.{Change}
 use Rattle.fsd_files.specs.Kept.{data_sectors}
 use Rattle.fsd_files.specs.Volume.{Volume, forced, free_runs, is_in, pages_free, waits}
 use Rattle.fsd_sound.specs.Anchors.{fresh_anchor}
+use Rattle.fsd_sound.specs.Laid.{HasOwnRoots}
 use Rattle.fsd_sound.specs.Mounted.{Mounted, IsMounted, Wrote, most_waiting}
 use Rattle.fsd_sound.specs.Shown.{records_by}
-use Rattle.fsd_sound.specs.Sound.{EndIn, IsSound}
+use Rattle.fsd_sound.specs.Sound.{EachBeside, EndIn, IsSound, weak_of}
 use Rattle.fsd_sound.specs.Writes.{force_writes}
 use Rattle.fsd_log.specs.declared.slot.Slot.{Slot}
 use Rattle.fsd_log.specs.Moves.{head_back, next_third}
@@ -337,9 +338,11 @@ pub record Ages (old new : Moment) : Type 0 where
 
 -- ---- what a stop leaves
 
--- The disk is sound for the changes of before, with all that were forced before: a call forces no change of its own.
+-- The disk is sound for the changes of before, with all that were forced before: a call forces no change of its own. Both
+-- roots are those of the volume's layout.
 pub record LeavesSound (k : Known) (may : Sectors) (old left : Moment) : Type 0 where
   pub sound : IsSound k.mounted.volume.layout k.windows k.changes (forced_of k) left.image
+  pub roots : HasOwnRoots k.mounted.volume.layout (weak_of k.windows) left.image
   pub windows : left.windows ≡ old.windows
   pub said : left.said ≡ old.said
   pub touches : Touches may old left
@@ -347,6 +350,15 @@ pub record LeavesSound (k : Known) (may : Sectors) (old left : Moment) : Type 0 
 -- what a stop leaves of a call over a mounted volume that writes only there
 abbrev pub Leaves : {S : Type 0} → (state : S → State) → (has : S → Mounted → List Placed → Type 0) → S → Sectors → Moment → Moment → Type 0
 Leaves state has s may old left = (k : Known) → Stands state has s k old → LeavesSound k may old left
+
+-- Of a call that writes the roots with another layout: the disk is sound by the one that the volume had, for the changes of
+-- before. A root that says one beside it says that other one.
+pub record LeavesRelaid (k : Known) (other : Layout) (Touched : Type 0) (old left : Moment) : Type 0 where
+  pub sound : IsSound k.mounted.volume.layout k.windows k.changes (forced_of k) left.image
+  pub says : EachBeside k.mounted.volume.layout left.image (λ l. l ≡ other)
+  pub windows : left.windows ≡ old.windows
+  pub said : left.said ≡ old.said
+  pub touches : Touched
 
 -- the runs that a put takes: those that are picked now, or once a force has ended
 abbrev pub or_freed : State → ℕ → Option (List Run) → Option (List Run)

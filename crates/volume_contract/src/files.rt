@@ -26,7 +26,7 @@ ghost use Rattle.volume_contract.specs.Ends.{Ends, EndsLoad, EndsPut, EndsForce,
 ghost use Rattle.volume_contract.specs.Causes.{Causes};
 ghost use Rattle.volume_contract.specs.Healing.{IsMet, LeavesWith, StandsStill};
 ghost use Rattle.volume_contract.specs.Telling.{TellsEntry, TellsForce, TellsGone, TellsHeld, TellsKept, TellsKey, TellsMoved, TellsLeader, TellsNext, TellsRange, TellsTwins, TellsLoad};
-ghost use Rattle.volume_contract.specs.Upgrade.{EndsUpgrade, RootsStand, is_fresh};
+ghost use Rattle.volume_contract.specs.Upgrade.{EndsUpgrade, LeavesUpgraded, RootsStand, is_fresh};
 ghost use Rattle.volume_contract.specs.Growth.{EndsGrow, HasGrown, LeavesGrown, WritesLonger};
 ghost use Rattle.volume_contract.specs.Mount.{MountOpens, MountTells, MountHeals, MountsCalm, IsSoundAt, MountsSound};
 ghost use Rattle.fsd_sound.specs.Mounting.{device_of_mount};
@@ -364,7 +364,7 @@ pub trait Files<M: Machine>: Sized {
         requires room { (state self.old).layout.sectors ≤ (M.report m.old).sectors }
         requires fresh { IsTrue (is_fresh (state self.old)) }
         ensures order { InOrder (upgrade_steps (state self.old)) m.old m.new result }
-        ensures disk { WritesDisk M.Machine (device_in device_of result) (Leaves state holds self.old is_root) m.old m.new }
+        ensures disk { WritesDisk M.Machine (device_in device_of result) (LeavesUpgraded state holds self.old is_root) m.old m.new }
         ensures writes { WritesWithin M.Machine is_root 2 m.old m.new result }
         ensures state { MatchResult result (λ x. state self.new ≡ with_three (state self.old)) (λ why. KeepsRefused (upgrade_steps (state self.old)) why (state self.old) (state self.new)) }
         ensures roots { OnOk result (M.honest m.new → RootsStand (state self.new) (M.now m.new)) }

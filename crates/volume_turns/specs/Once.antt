@@ -13,7 +13,7 @@ use Rattle.fsd_files.specs.Volume.{Volume}
 use Rattle.fsd_sound.specs.Laid.{HasOwnRoots}
 use Rattle.fsd_sound.specs.Mounted.{telling_of}
 use Rattle.fsd_sound.specs.Shown.{told}
-use Rattle.fsd_sound.specs.Sound.{IsSound, weak_of}
+use Rattle.fsd_sound.specs.Sound.{IsSound, Says, weak_of}
 use Rattle.fsd_texts.specs.declared.command.Command.{Command}
 use Rattle.fsd_texts.specs.declared.fault.Fault.{Fault}
 use Rattle.fsd_texts.specs.declared.fault.Fault.TheVariants as Ends
@@ -47,6 +47,10 @@ close_fault why = Ends.Memory
 
 -- ---- the end of a volume, and a text behind it
 
+-- each layout that a root says is this one, or the volume's
+abbrev pub SaysEither : (own : Layout) → Known → Image → Type 0
+SaysEither own k i = (l : Layout) → Says l i → (l ≡ own) ⊎ (l ≡ k.mounted.volume.layout)
+
 -- Nothing is said before all is forced, and on the disk, and both roots are those of this layout there.
 pub record InClose (own : Layout) (k : Known) (f : ℕ) (text : List ℕ) (old left : Moment) : Type 0 where
   pub windows : left.windows ≡ old.windows
@@ -56,6 +60,7 @@ pub record InClose (own : Layout) (k : Known) (f : ℕ) (text : List ℕ) (old l
   pub heard : ℕ
   pub said : left.said ≡ old.said ++ take heard text
   pub all : 0 < heard → forced ≡ length k.changes
+  pub says : SaysEither own k left.image
   pub roots : 0 < heard → HasOwnRoots own (weak_of k.windows) left.image
 
 -- All is said. The disk's own table is the volume's, however it wears, and both roots are those of this layout, whichever
@@ -145,9 +150,10 @@ EndsAlone M c k mets a b (Err Output) = ⊤
 abbrev pub Anything : Volume → Image → Type 0
 Anything v i = ⊤
 
--- Nothing was said yet, or both roots are those of this layout.
-abbrev pub SaysRooted : Layout → Known → (old left : Moment) → Type 0
-SaysRooted own k old left = (left.said ≡ old.said) ⊎ HasOwnRoots own (weak_of k.windows) left.image
+-- Each layout that a root says is this one, or the volume's. Nothing was said yet, or both roots are those of this layout.
+pub record SaysRooted (own : Layout) (k : Known) (old left : Moment) : Type 0 where
+  pub says : SaysEither own k left.image
+  pub replied : (left.said ≡ old.said) ⊎ HasOwnRoots own (weak_of k.windows) left.image
 
 pub record IsAlone {D : Type 0} (M : Ghosts D) (c : Command) (k : Known) (a b : D) (result : Result ℕ Halt) : Type 0 where
   pub mets : List Meeting

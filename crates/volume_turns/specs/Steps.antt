@@ -18,8 +18,9 @@ use Rattle.fsd_texts.specs.declared.fault.Fault.TheVariants as Ends
 use Rattle.fsd_runs.specs.Commands.{answer, changes_of, MayFind, may_wear_out}
 use Rattle.sector_disk.specs.Damage.{AreLost}
 use Rattle.sector_disk.specs.Machine.{Moment}
+use Rattle.fsd_sound.specs.Laid.{HasOwnRoots}
 use Rattle.fsd_sound.specs.Mounted.{Mounted}
-use Rattle.fsd_sound.specs.Sound.{IsSound}
+use Rattle.fsd_sound.specs.Sound.{IsSound, weak_of}
 use Rattle.scrub.specs.Scrub.{IsScrubbed}
 use Rattle.scrub.specs.Telling.{IsHomeOfPage}
 use Rattle.volume_contract.specs.State.{State, Known, volume_of, forced_of, Stands, is_worn}
@@ -98,9 +99,10 @@ device_by (Err fault) = device_told fault
 
 -- ---- what a stop leaves
 
--- The disk is sound as it was.
+-- The disk is sound as it was, and both roots are those of the volume's layout.
 pub record StaysSoundFor (k : Known) (old left : Moment) : Type 0 where
   pub sound : IsSound k.mounted.volume.layout k.windows k.changes (forced_of k) left.image
+  pub roots : HasOwnRoots k.mounted.volume.layout (weak_of k.windows) left.image
   pub windows : left.windows ≡ old.windows
   pub said : left.said ≡ old.said
 
