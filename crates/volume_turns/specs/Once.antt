@@ -13,7 +13,7 @@ use Rattle.fsd_files.specs.Volume.{Volume}
 use Rattle.fsd_sound.specs.Laid.{HasOwnRoots}
 use Rattle.fsd_sound.specs.Mounted.{telling_of}
 use Rattle.fsd_sound.specs.Shown.{told}
-use Rattle.fsd_sound.specs.Sound.{IsSound, Says, weak_of}
+use Rattle.fsd_sound.specs.Sound.{IsSound, weak_of}
 use Rattle.fsd_texts.specs.declared.command.Command.{Command}
 use Rattle.fsd_texts.specs.declared.fault.Fault.{Fault}
 use Rattle.fsd_texts.specs.declared.fault.Fault.TheVariants as Ends
@@ -27,6 +27,7 @@ use Rattle.volume_turns.specs.declared.turns.Halt.{Halt}
 use Rattle.volume_turns.specs.declared.turns.Halt.TheVariants.{Fault as Stopped, Output}
 use Rattle.scrub.specs.Telling.{AreOfPage}
 use Rattle.volume_contract.specs.State.{Known, volume_of, forced_of}
+use Rattle.volume_turns.specs.Steps.{SaysEither}
 use Rattle.volume_turns.specs.Turns.{InRun, EndsAtOnce, IsEndOn, KeepsSaid}
 
 -- what a mount's fault is as the end of a run
@@ -46,10 +47,6 @@ close_fault (Why.Lost a b) = Ends.Lost a b
 close_fault why = Ends.Memory
 
 -- ---- the end of a volume, and a text behind it
-
--- each layout that a root says is this one, or the volume's
-abbrev pub SaysEither : (own : Layout) → Known → Image → Type 0
-SaysEither own k i = (l : Layout) → Says l i → (l ≡ own) ⊎ (l ≡ k.mounted.volume.layout)
 
 -- Nothing is said before all is forced, and on the disk, and both roots are those of this layout there.
 pub record InClose (own : Layout) (k : Known) (f : ℕ) (text : List ℕ) (old left : Moment) : Type 0 where

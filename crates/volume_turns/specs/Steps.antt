@@ -1,5 +1,5 @@
 -- One command over a mounted volume: what it answers, and what it leaves.
-use Rattle.std.specs.Prelude.{◌≡◌, ⊤, ℕ, Bool, true, false, List, ◌++◌, Option, Some, None, Result, Ok, Err, IfErr, IsTrue, IsFalse}
+use Rattle.std.specs.Prelude.{◌≡◌, ◌⊎◌, ⊤, ℕ, Bool, true, false, List, ◌++◌, Option, Some, None, Result, Ok, Err, IfErr, IsTrue, IsFalse}
 use Rattle.volume_layout.specs.declared.layout.Layout.{Layout}
 use Rattle.fsd_log.specs.Scan.{Placed}
 use Rattle.fsd_bytes.specs.declared.key.Key.{Key}
@@ -18,9 +18,8 @@ use Rattle.fsd_texts.specs.declared.fault.Fault.TheVariants as Ends
 use Rattle.fsd_runs.specs.Commands.{answer, changes_of, MayFind, may_wear_out}
 use Rattle.sector_disk.specs.Damage.{AreLost}
 use Rattle.sector_disk.specs.Machine.{Moment}
-use Rattle.fsd_sound.specs.Laid.{HasOwnRoots}
 use Rattle.fsd_sound.specs.Mounted.{Mounted}
-use Rattle.fsd_sound.specs.Sound.{IsSound, weak_of}
+use Rattle.fsd_sound.specs.Sound.{IsSound, Says}
 use Rattle.scrub.specs.Scrub.{IsScrubbed}
 use Rattle.scrub.specs.Telling.{IsHomeOfPage}
 use Rattle.volume_contract.specs.State.{State, Known, volume_of, forced_of, Stands, is_worn}
@@ -99,12 +98,20 @@ device_by (Err fault) = device_told fault
 
 -- ---- what a stop leaves
 
--- The disk is sound as it was, and both roots are those of the volume's layout.
-pub record StaysSoundFor (k : Known) (old left : Moment) : Type 0 where
+-- each layout that a root says is this one, or the volume's
+abbrev pub SaysEither : (own : Layout) → Known → Image → Type 0
+SaysEither own k i = (l : Layout) → Says l i → (l ≡ own) ⊎ (l ≡ k.mounted.volume.layout)
+
+-- The disk is sound as it was. Each layout that a root says is this one, or the volume's.
+pub record StaysSaying (own : Layout) (k : Known) (old left : Moment) : Type 0 where
   pub sound : IsSound k.mounted.volume.layout k.windows k.changes (forced_of k) left.image
-  pub roots : HasOwnRoots k.mounted.volume.layout (weak_of k.windows) left.image
+  pub says : SaysEither own k left.image
   pub windows : left.windows ≡ old.windows
   pub said : left.said ≡ old.said
+
+-- so it is of the volume's own
+abbrev pub StaysSoundFor : Known → (old left : Moment) → Type 0
+StaysSoundFor k old left = StaysSaying k.mounted.volume.layout k old left
 
 abbrev pub Stays : {S : Type 0} → (state : S → State) → (has : S → Mounted → List Placed → Type 0) → S → Moment → Moment → Type 0
 Stays state has s old left = (k : Known) → Stands state has s k old → StaysSoundFor k old left
