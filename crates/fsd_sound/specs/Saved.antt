@@ -1,5 +1,5 @@
 -- The saved map of a disk, and what it says of the pages that are shown.
-use Rattle.std.specs.Prelude.{◌≡◌, ℕ, ◌+◌, ◌<◌, Bool, not, ◌==◌, List, length, Option, Some, None, IfSome, IsTrue, option_and_then}
+use Rattle.std.specs.Prelude.{◌≡◌, ◌⊎◌, ℕ, ◌+◌, ◌<◌, ◌≤◌, Bool, not, ◌==◌, List, length, Option, Some, None, IfSome, IsTrue, option_and_then}
 use Rattle.std.specs.List.{list_any, range_with_len}
 use Rattle.volume_layout.specs.declared.layout.Layout.{Layout}
 use Rattle.volume_layout.specs.Layout.{home_a, is_data, map_sectors, map_start}
@@ -54,3 +54,19 @@ pub record AreSaved (l : Layout) (counts : MapCounts) (sectors pages : List (Lis
 abbrev pub SavesPages : Layout → Image → List (List ℕ) → Type 0
 SavesPages l i pages =
     EachClosed i (λ a. (sectors : List (List ℕ)) (counts : MapCounts) → map_of l i ≡ Some sectors → IsMapOf l a.epoch counts sectors → AreSaved l counts sectors pages)
+
+-- ---- what a mount believes
+
+-- that copy of the anchor says that the volume was closed in this epoch
+abbrev pub IsClosedAt : (epoch : ℕ) → Image → ℕ → Type 0
+IsClosedAt epoch i place = (a : Anchor) × (closed_at i place ≡ Some a) × (a.epoch ≡ epoch)
+
+-- The volume was closed in this epoch. Its map is whole and of that epoch, and has no more sectors than the table had pages
+-- in use: else a walk of the table reads less.
+pub record IsBelieved (l : Layout) (epoch : ℕ) (i : Image) : Type 0 where
+  pub closed : IsClosedAt epoch i 8 ⊎ IsClosedAt epoch i 12
+  pub sectors : List (List ℕ)
+  pub whole : map_of l i ≡ Some sectors
+  pub counts : MapCounts
+  pub is : IsMapOf l epoch counts sectors
+  pub worth : map_sectors l ≤ counts.pages

@@ -1,0 +1,25 @@
+-- The sectors of a map as they are saved, and what writing them leaves.
+use Rattle.std.specs.Prelude.{ℕ, ◌≤◌, ◌*◌, Bool, List}
+use Rattle.volume_layout.specs.declared.layout.Layout.{Layout}
+use Rattle.volume_layout.specs.Layout.{map_bits, map_sectors, map_start}
+use Rattle.fsd_formats.specs.MapSector.{map_sector}
+use Rattle.fsd_formats.specs.SavedMap.{MapCounts, head_of}
+use Rattle.sector_disk.specs.declared.sector.Sector.{Sector}
+use Rattle.sector_disk.specs.declared.sector.Sector.TheVariants.{Whole}
+use Rattle.sector_disk.specs.Image.{lay}
+use Rattle.sector_disk.specs.Machine.{Moment, Holds}
+use Rattle.saved_map.specs.Marks.{is_marked}
+
+-- the map's sector of this number, of an epoch, with these counts
+abbrev pub saved_sector : Layout → (free : List ℕ) → (pages : List Bool) → (epoch : ℕ) → MapCounts → ℕ → List ℕ
+saved_sector l free pages epoch counts k = map_sector (head_of epoch k counts) (is_marked l free pages) (map_bits * k)
+
+-- the image with so many first sectors of the map
+abbrev pub with_map : Layout → (ℕ → List ℕ) → List Sector → ℕ → List Sector
+with_map l sector image count = lay image (map_start l) (λ k. Whole (sector k)) count
+
+-- Some first sectors of the map stand over the old image.
+pub record SavesIn (l : Layout) (sector : ℕ → List ℕ) (old left : Moment) : Type 0 where
+  pub stood : ℕ
+  pub within : stood ≤ map_sectors l
+  pub holds : Holds old (with_map l sector old.image stood) left
