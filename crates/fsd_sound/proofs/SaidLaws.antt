@@ -50,8 +50,8 @@ pub says_no_more_then : (i j k : Image) → SaysNoMore i j → SaysNoMore j k �
 says_no_more_then i j k first second l says = first l (second l says)
 
 -- what has the same root is said as well
-pub says_as : (l k : Layout) (i : Image) → root_bytes k ≡ root_bytes l → Says l i → Says k i
-says_as l k i same = ⊎_elim (λ is. inl (is ∙ ap (λ (b : List ℕ). Whole b) (sym same))) (λ is. inr (is ∙ ap (λ (b : List ℕ). Whole b) (sym same)))
+pub says_as : (l k : Layout) (i : Image) → root_bytes l ≡ root_bytes k → Says l i → Says k i
+says_as l k i same = ⊎_elim (λ is. inl (is ∙ ap (λ (b : List ℕ). Whole b) same)) (λ is. inr (is ∙ ap (λ (b : List ℕ). Whole b) same))
 
 -- ---- layouts with the same root
 
@@ -107,7 +107,7 @@ said_again l weak i found k roots (inr is) (inr more) =
 
 -- ---- a mounted volume's own roots
 
-own_root : (l k : Layout) (weak : Sectors) (i : Image) → HasOwnRoots l weak i → Says k i → root_bytes l ≡ root_bytes k
+pub own_root : (l k : Layout) (weak : Sectors) (i : Image) → HasOwnRoots l weak i → Says k i → root_bytes l ≡ root_bytes k
 own_root l k weak i own = ⊎_elim (λ is. has_bytes weak i (root_bytes l) (root_bytes k) 0 own.0 is) (λ is. has_bytes weak i (root_bytes l) (root_bytes k) 4 own.1 is)
 
 -- none of them says the layout turned
