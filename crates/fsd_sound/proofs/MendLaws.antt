@@ -199,6 +199,15 @@ module _ (l : Layout) (windows : List WeakRun) (narrow : IsNarrow (weak_of windo
 
 -- ---- a root
 
+-- a root says a layout only where it did before, or the one that was written does
+pub says_rooted : (i : Image) (s : ℕ) (bytes : List ℕ) → s < length i → (k : Layout) → Says k (with_sector i s bytes) → Says k i ⊎ (bytes ≡ root_bytes k)
+says_rooted i s bytes room k = ⊎_elim (at_place 0 (λ says. inl says)) (at_place 4 (λ says. inr says))
+  where
+    at_place : (p : ℕ) → (sector_at i p ≡ Whole (root_bytes k) → Says k i) → sector_at (with_sector i s bytes) p ≡ Whole (root_bytes k) → Says k i ⊎ (bytes ≡ root_bytes k)
+    at_place p says there = ⊎_elim
+        (λ here. inr (sym (same_bytes (sector_at (with_sector i s bytes) s) bytes (root_bytes k) (with_same i s bytes room) (ap (sector_at (with_sector i s bytes)) (sym here) ∙ there))))
+        (λ other. inl (says (sym (with_other i s p bytes other) ∙ there))) (same_or p s)
+
 module _ (l : Layout) (weak : Sectors) (i : Image) (s : ℕ) (at : (s ≡ 0) ⊎ (s ≡ 4)) (bytes : List ℕ) (o : Layout) (is : IsRootOf l o bytes) (room : s < length i) where
   root_is : sector_at (with_sector i s bytes) s ≡ Whole bytes
   root_is = with_same i s bytes room
@@ -228,15 +237,6 @@ module _ (l : Layout) (weak : Sectors) (i : Image) (s : ℕ) (at : (s ≡ 0) ⊎
   behind_root : (p : ℕ) → 8 ≤ p → sector_at (with_sector i s bytes) p ≡ sector_at i p
   behind_root p from = with_other i s p bytes (λ e. elim at [ inl a ↦ omega (arith, a, e, from) | inr b ↦ omega (arith, b, e, from) ])
 
-  -- a root says a layout only where it did before, or the one that was written does
-  says_rooted : (k : Layout) → Says k (with_sector i s bytes) → Says k i ⊎ (bytes ≡ root_bytes k)
-  says_rooted k = ⊎_elim (at_place 0 (λ says. inl says)) (at_place 4 (λ says. inr says))
-    where
-      at_place : (p : ℕ) → (sector_at i p ≡ Whole (root_bytes k) → Says k i) → sector_at (with_sector i s bytes) p ≡ Whole (root_bytes k) → Says k i ⊎ (bytes ≡ root_bytes k)
-      at_place p says there = ⊎_elim
-          (λ here. inr (sym (same_bytes (sector_at (with_sector i s bytes) s) bytes (root_bytes k) root_is (ap (sector_at (with_sector i s bytes)) (sym here) ∙ there))))
-          (λ other. inl (says (sym (with_other i s p bytes other) ∙ there))) (same_or p s)
-
 -- a root may be written with the bytes of the layout, or of the one beside it that the roots may say, where the image may
 -- be mounted with that as well and what the lists tell lies in it
 root_shows : (l : Layout) (windows : List WeakRun) → IsNarrow (weak_of windows) → (choices : List (List (List ℕ))) (s : ℕ) (bytes : List ℕ) (c : Image) (shows : ShowsPages l windows choices c) → IsRootOf l shows.readable.roots.other bytes
@@ -245,13 +245,13 @@ root_shows : (l : Layout) (windows : List WeakRun) → IsNarrow (weak_of windows
 root_shows l windows narrow choices s bytes c shows is beside at room =
     let o = shows.readable.roots.other in
     let long : length (with_sector c s bytes) ≡ length c = length-set c s (Whole bytes) in
-    let may : (k : Layout) → IsBeside l k → Says k (with_sector c s bytes) → IsEither l k windows c × AllLieIn k choices = λ k at_k says. ⊎_elim (λ before. (shows.readable.either k at_k before, shows.within k at_k before)) (beside k at_k) (says_rooted l (weak_of windows) c s at bytes o is room k says) in
+    let may : (k : Layout) → IsBeside l k → Says k (with_sector c s bytes) → IsEither l k windows c × AllLieIn k choices = λ k at_k says. ⊎_elim (λ before. (shows.readable.either k at_k before, shows.within k at_k before)) (beside k at_k) (says_rooted c s bytes room k says) in
     all_shows l windows shows.readable.borne choices (with_sector c s bytes) (λ k at_k says. let e = may k at_k says in (e.0.borne, omega (arith, e.0.fits, long), e.1, λ sized. open_written c s bytes (λ here. ⊎_elim (λ z. omega (arith, here, z)) (λ z. omega (arith, here, z)) at) (λ here. ⊎_elim (λ z. omega (arith, here, z)) (λ z. omega (arith, here, z)) at) (e.0.opened sized)))
     (all_over (weak_of windows) (StandsShown l (weak_of windows) choices) c s bytes room (shows_all l windows narrow choices c shows)
     (λ i worn there stands.
     let inside : s < length i = omega (arith, room, worn.size) in
     rooted_stands l (weak_of windows) choices i (with_sector i s bytes) (behind_root l (weak_of windows) i s at bytes o is inside) (rooted_roots l (weak_of windows) i s at bytes o is inside (roots_still l (weak_of windows) narrow c i worn shows.readable.roots) (still_other l (weak_of windows) narrow c i worn shows.readable.roots))
-    (λ says. ⊎_elim stands.empty (λ written. (beside (turned l) (inl refl) written).0.empty refl i worn) (says_rooted l (weak_of windows) i s at bytes o is inside (turned l) says)) stands))
+    (λ says. ⊎_elim stands.empty (λ written. (beside (turned l) (inl refl) written).0.empty refl i worn) (says_rooted i s bytes inside (turned l) says)) stands))
 
 pub rooted_shows : (l : Layout) (windows : List WeakRun) → IsNarrow (weak_of windows) → (choices : List (List (List ℕ))) (s : ℕ) (c : Image) → (s ≡ 0) ⊎ (s ≡ 4) → s < length c → ShowsPages l windows choices c → ShowsPages l windows choices (with_sector c s (root_bytes l))
 rooted_shows l windows narrow choices s c at room shows =

@@ -8,10 +8,10 @@ use Rattle.volume_layout.proofs.TurnedLaws.{planned_turned, roots_differ, turned
 use Rattle.sector_disk.specs.declared.sector.Sector.TheVariants.{Whole}
 use Rattle.sector_disk.specs.Image.{sector_at, IsWorn}
 use Rattle.sector_disk.proofs.Wear.{worn_whole}
-use Rattle.fsd_files.specs.Disk.{Image, Sectors, Has}
+use Rattle.fsd_files.specs.Disk.{Image, SectorWorn, Sectors, Has}
 use Rattle.fsd_sound.specs.Laid.{HasOwnRoots}
-use Rattle.fsd_sound.specs.Sound.{HasRoots, IsRootAt, IsRootOf, IsSaid, Says, SaysTurned}
-use Rattle.fsd_sound.proofs.SectorFacts.{has_bytes}
+use Rattle.fsd_sound.specs.Sound.{HasRoots, IsRootAt, IsRootOf, IsSaid, Says, SaysNoMore, SaysTurned}
+use Rattle.fsd_sound.proofs.SectorFacts.{has_bytes, whole_before}
 
 -- ---- two images
 
@@ -36,6 +36,22 @@ module _ (k : Layout) (i j : Image) where
   pub said_before : (l : Layout) → (Says k j → Says k i) → IsSaid l j k → IsSaid l i k
   said_before l was (inl is) = inl is
   said_before l was (inr is) = inr (is.0, was is.1)
+
+-- ---- no layout that was not said
+
+-- where the roots are at most worn
+pub says_no_more : (weak : Sectors) (i j : Image) → ((s : ℕ) → s < 8 → SectorWorn (weak s) (sector_at i s) (sector_at j s)) → SaysNoMore i j
+says_no_more weak i j worn k = says_before k i j (λ s bytes low is. whole_before (weak s) (sector_at i s) (sector_at j s) bytes (worn s low) is)
+
+pub worn_says : (weak : Sectors) (i j : Image) → IsWorn weak i j → SaysNoMore i j
+worn_says weak i j w k = says_worn k i j weak w
+
+pub says_no_more_then : (i j k : Image) → SaysNoMore i j → SaysNoMore j k → SaysNoMore i k
+says_no_more_then i j k first second l says = first l (second l says)
+
+-- what has the same root is said as well
+pub says_as : (l k : Layout) (i : Image) → root_bytes l ≡ root_bytes k → Says l i → Says k i
+says_as l k i same = ⊎_elim (λ is. inl (is ∙ ap (λ (b : List ℕ). Whole b) same)) (λ is. inr (is ∙ ap (λ (b : List ℕ). Whole b) same))
 
 -- ---- layouts with the same root
 
@@ -91,7 +107,7 @@ said_again l weak i found k roots (inr is) (inr more) =
 
 -- ---- a mounted volume's own roots
 
-own_root : (l k : Layout) (weak : Sectors) (i : Image) → HasOwnRoots l weak i → Says k i → root_bytes l ≡ root_bytes k
+pub own_root : (l k : Layout) (weak : Sectors) (i : Image) → HasOwnRoots l weak i → Says k i → root_bytes l ≡ root_bytes k
 own_root l k weak i own = ⊎_elim (λ is. has_bytes weak i (root_bytes l) (root_bytes k) 0 own.0 is) (λ is. has_bytes weak i (root_bytes l) (root_bytes k) 4 own.1 is)
 
 -- none of them says the layout turned

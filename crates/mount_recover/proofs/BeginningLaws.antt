@@ -23,6 +23,7 @@ use Rattle.fsd_log.specs.Scan.{is_newer, newer_of, start}
 use Rattle.fsd_files.specs.Disk.{Image, SectorWorn, Has, bytes_of}
 use Rattle.fsd_sound.specs.Anchors.{anchor_at, EachAnchor, fresh_anchor}
 use Rattle.fsd_sound.specs.Saved.{ClosesNone, IsOpen, closed_at}
+use Rattle.fsd_sound.proofs.SaidLaws.{own_root, says_same, says_worn}
 use Rattle.fsd_sound.proofs.SavedLaws.{open_closes, plain_is_open, stays_open, worn_closes}
 use Rattle.fsd_sound.specs.Shown.{newest, records_by, all_pages, shown_by}
 use Rattle.fsd_sound.specs.Sound.{EachStamp, ShowsPages, weak_of, BearsLast}
@@ -38,7 +39,7 @@ use Rattle.fsd_sound.proofs.LaidLaws.{has_worn, own_worn}
 use Rattle.fsd_sound.proofs.RenewLaws.{renewed_shows}
 use Rattle.fsd_sound.proofs.SettleLaws.{open_in_next, settles}
 use Rattle.fsd_sound.proofs.WritesLaws.{elsewhere}
-use Rattle.mount_recover.specs.Mending.{StaysBut, SameElsewhere, IsCompleted, IsMended, StaysShown, HasSettled, StaysOrSettles}
+use Rattle.mount_recover.specs.Mending.{StaysBut, SameElsewhere, IsCompleted, IsMended, SaysBut, StaysShown, HasSettled, StaysOrSettles}
 use Rattle.mount_recover.specs.Recover.{HasAnchorTwice}
 use Rattle.mount_recover.specs.Replay.{IsReplayed}
 use Rattle.mount_recover.proofs.KeepsLaws.{two_written}
@@ -253,6 +254,11 @@ module _ (l : Layout) (windows : List WeakRun) (choices : List (List (List ℕ))
   body_closes : ClosesNone first.image at.image
   body_closes = closes_same first.image at.image (at.body 8 (omega arith) (omega arith)) (at.body 12 (omega arith) (omega arith))
 
+  -- both roots are the layout's, and none is written
+  says_own : (e : Image) → ((s : ℕ) → s ≢ 8 → s ≢ 12 → sector_at e s ≡ sector_at at.image s) → SaysBut l first.image e
+  says_own e same k says =
+      inr (own_root l k (weak_of windows) at.image (inl at.root, inl at.root_copy) (says_same k at.image e (λ s low. same s (λ is. omega (arith, is, low)) (λ is. omega (arith, is, low))) says))
+
   -- one of the new anchors says of no volume that it was closed, and the other is as it was
   one_closes : ClosesNone first.image one
   one_closes = (
@@ -286,6 +292,7 @@ module _ (l : Layout) (windows : List WeakRun) (choices : List (List (List ℕ))
         shows = is.shows;
         log = λ s from inside. is.same s (λ e. omega (arith, e, from)) (λ e. omega (arith, e, from)) ∙ at.body s (omega (arith, from)) inside;
         closes = is.closes;
+        says = says_own (stand (stand at.image 8 bytes anchors.first) 12 bytes anchors.copy) is.same;
         rest = λ s out. let other = elsewhere l s out in is.same s other.anchor other.anchor_copy ∙ at.rest s out;
       }
 
@@ -302,6 +309,7 @@ module _ (l : Layout) (windows : List WeakRun) (choices : List (List (List ℕ))
       shows = shows_two;
       log = λ s from inside. behind_two s from ∙ at.body s (omega (arith, from)) inside;
       closes = open_closes first.image two open_two;
+      says = says_own two others_two;
       rest = rest_two;
     }
 
@@ -338,6 +346,7 @@ module _ (l : Layout) (windows : List WeakRun) (choices : List (List (List ℕ))
         after = record { run = named.0; settled = mounted.settled; pages = c.pages; chosen = c.chosen; shows = mounted.shows; opened = open_new };
         log = λ s from inside. worn_twice (weak_of windows s) (sector_at first.image s) (sector_at two s) (sector_at new.image s) (inl (behind_two s from ∙ at.body s (omega (arith, from)) inside)) (worn_last.each s);
         rest = λ s out. worn_twice (weak_of windows s) (sector_at first.image s) (sector_at two s) (sector_at new.image s) (inl (rest_two s out)) (worn_last.each s);
+        says = λ k says. says_own two others_two k (says_worn k two new.image (weak_of windows) worn_last says);
         said = done.said ∙ holds_mid.said;
       }
 

@@ -15,14 +15,15 @@ use Rattle.sector_disk.proofs.Wear.{worn_refl, worn_trans, stand_worn, stand_oth
 use Rattle.fsd_log.specs.Images.{last_image}
 use Rattle.fsd_log.specs.Scan.{Placed}
 use Rattle.fsd_log.proofs.PlaceLaws.{place_inside, place_from}
-use Rattle.fsd_files.specs.Disk.{Image, Sectors}
+use Rattle.fsd_files.specs.Disk.{Image, SectorWorn, Sectors}
 use Rattle.fsd_sound.specs.Anchors.{anchor_at, anchor_of}
 use Rattle.fsd_sound.specs.Saved.{ClosesNone}
 use Rattle.fsd_sound.specs.Laid.{HasFront, HasCopies, IsLaid, AllLaid}
 use Rattle.fsd_sound.specs.Shown.{records_by, shown}
-use Rattle.fsd_sound.specs.Sound.{ShowsOne, ShowsPages, weak_of}
+use Rattle.fsd_sound.specs.Sound.{SaysNoMore, ShowsOne, ShowsPages, weak_of}
 use Rattle.fsd_sound.proofs.LogPlaces.{IsRecord, scan_records}
-use Rattle.fsd_sound.proofs.SavedLaws.{ReadsLess, closes_none, worn_reads}
+use Rattle.fsd_sound.proofs.SaidLaws.{says_no_more}
+use Rattle.fsd_sound.proofs.SavedLaws.{closes_none, worn_reads}
 use Rattle.fsd_sound.proofs.SoundLaws.{shows_still}
 use Rattle.fsd_sound.proofs.WindowLaws.{open_is_weak}
 use Rattle.log_thirds.specs.Append.{IsIndexed, StandsInPart}
@@ -141,19 +142,23 @@ module _ (l : Layout) (windows : List WeakRun) (choices : List (List (List ℕ))
     rest_at s out = worn_twice (weak_of windows s) (sector_at old.image s) (sector_at (stand old.image log.copies.place log.copies.bytes m) s) (sector_at left.image s)
         (inl (copies_elsewhere l log seen.image seen.knows m le s out old.image)) ((weaker (stand old.image log.copies.place log.copies.bytes m) left.image worn).each s)
 
-    -- the anchors are not written
+    -- the roots and the anchors are not written
+    head_at : (s : ℕ) → s < 16 → SectorWorn (weak_of windows s) (sector_at old.image s) (sector_at left.image s)
+    head_at s low = worn_twice (weak_of windows s) (sector_at old.image s) (sector_at (stand old.image log.copies.place log.copies.bytes m) s) (sector_at left.image s)
+        (inl (copies_behind l log seen.image seen.knows m le s low old.image)) ((weaker (stand old.image log.copies.place log.copies.bytes m) left.image worn).each s)
+
     closes_at : ClosesNone old.image left.image
-    closes_at = closes_none old.image left.image (reads 8 (omega arith)) (reads 12 (omega arith))
-      where
-        reads : (s : ℕ) → s < 16 → ReadsLess old.image left.image s
-        reads s low = worn_reads (weak_of windows) old.image left.image s (worn_twice (weak_of windows s) (sector_at old.image s) (sector_at (stand old.image log.copies.place log.copies.bytes m) s) (sector_at left.image s)
-            (inl (copies_behind l log seen.image seen.knows m le s low old.image)) ((weaker (stand old.image log.copies.place log.copies.bytes m) left.image worn).each s))
+    closes_at = closes_none old.image left.image (worn_reads (weak_of windows) old.image left.image 8 (head_at 8 (omega arith))) (worn_reads (weak_of windows) old.image left.image 12 (head_at 12 (omega arith)))
+
+    says_at : SaysNoMore old.image left.image
+    says_at = says_no_more (weak_of windows) old.image left.image (λ s low. head_at s (omega (arith, low)))
 
     replays_at : left.windows.present ≡ old.windows.present → left.said ≡ old.said → Replays l windows choices old left
     replays_at present said = record {
       stage = inl (record { present = present; shows = shows_at; closes = closes_at });
       order = inl kept_at;
       rest = rest_at;
+      says = says_at;
       said = said;
     }
 
@@ -236,6 +241,7 @@ module _ (l : Layout) (windows : List WeakRun) (choices : List (List (List ℕ))
           kept = kept_at (copies_count log.copies) (omega arith) new (later new names.image);
           rest = rest_at (copies_count log.copies) (omega arith) new (later new names.image);
           closes = closes_at (copies_count log.copies) (omega arith) new (later new names.image);
+          says = says_at (copies_count log.copies) (omega arith) new (later new names.image);
           present = present;
           said = names.said ∙ holds.said;
         }

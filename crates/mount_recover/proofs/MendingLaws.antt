@@ -19,6 +19,7 @@ use Rattle.fsd_sound.specs.Anchors.{EachAnchor}
 use Rattle.fsd_sound.specs.Saved.{ClosesNone}
 use Rattle.fsd_sound.specs.Shown.{records_by}
 use Rattle.fsd_sound.specs.Sound.{ShowsPages, weak_of}
+use Rattle.fsd_sound.proofs.SaidLaws.{says_same}
 use Rattle.fsd_sound.proofs.SavedLaws.{closes_none}
 use Rattle.fsd_sound.proofs.SoundLaws.{shows_still}
 use Rattle.fsd_sound.proofs.WindowLaws.{open_is_weak}
@@ -30,10 +31,10 @@ use Rattle.fsd_sound.specs.Logged.{IsLogged}
 use Rattle.fsd_sound.specs.Windows.{IsNarrow}
 use Rattle.fsd_sound.proofs.CommuteLaws.{with_same, with_other, all_over}
 use Rattle.fsd_sound.proofs.WritesLaws.{elsewhere}
-use Rattle.fsd_sound.proofs.MendLaws.{logged_shows, mended_shows, rooted_shows}
+use Rattle.fsd_sound.proofs.MendLaws.{logged_shows, mended_shows, rooted_shows, says_rooted}
 use Rattle.fsd_sound.proofs.PagesLaws.{home_is, logged_is}
 use Rattle.fsd_sound.proofs.AlikeLaws.{each_same, records_same}
-use Rattle.mount_recover.specs.Mending.{IsHomeOf, IsCompleted, IsMending, IsMended, SameElsewhere, StaysShown}
+use Rattle.mount_recover.specs.Mending.{IsHomeOf, IsCompleted, IsMending, IsMended, SameElsewhere, SaysBut, StaysShown}
 use Rattle.volume_layout.proofs.KindLaws.{gap_most}
 
 -- ---- homes
@@ -87,6 +88,10 @@ closes_same i j first second = closes_none i j (λ bytes there. ap bytes_of (sym
 
 closes_front : (i j : Image) (end : ℕ) → ((s : ℕ) → s < 16 + end → sector_at j s ≡ sector_at i s) → ClosesNone i j
 closes_front i j end front = closes_same i j (front 8 (omega arith)) (front 12 (omega arith))
+
+-- and the roots
+says_front : (l : Layout) (i j : Image) (end : ℕ) → ((s : ℕ) → s < 16 + end → sector_at j s ≡ sector_at i s) → SaysBut l i j
+says_front l i j end front k says = inl (says_same k i j (λ s low. front s (omega (arith, low))) says)
 
 -- a home is written, so the log stays
 pub logged_on : (l : Layout) (weak : ℕ → Rattle.std.specs.Prelude.Bool) (page s : ℕ) (bytes : List ℕ) (i : Image) → s < length i → 16 + 3 * l.third ≤ s → IsLogged l weak page i → IsLogged l weak page (with_sector i s bytes)
@@ -165,7 +170,7 @@ module _ (l : Layout) (windows : List WeakRun) (choices : List (List (List ℕ))
     }
 
     pub stays : (left : Moment) → Wears now left → StaysShown l windows choices first left
-    stays left wears = record { image = at.image; holds = holds_wears first at.image now left at.holds wears; shows = at.shows; log = λ s from inside. at.front s inside; closes = closes_front first.image at.image (3 * l.third) at.front; rest = at.rest }
+    stays left wears = record { image = at.image; holds = holds_wears first at.image now left at.holds wears; shows = at.shows; log = λ s from inside. at.front s inside; closes = closes_front first.image at.image (3 * l.third) at.front; says = says_front l first.image at.image (3 * l.third) at.front; rest = at.rest }
 
     long : home_b l l.pages ≤ length at.image
     long = let bounds = planned_bounds l c.planned in omega (arith, bounds.third_least, bounds.sectors_least, at.shows.readable.roots.fits)
@@ -211,6 +216,7 @@ module _ (l : Layout) (windows : List WeakRun) (choices : List (List (List ℕ))
         shows = part.shows;
         log = λ p from inside. part.others p (λ is. omega (arith, is, inside, home_room.1)) ∙ at.front p inside;
         closes = closes_front first.image e (3 * l.third) (λ p inside. part.others p (λ is. omega (arith, is, inside, home_room.1)) ∙ at.front p inside);
+        says = says_front l first.image e (3 * l.third) (λ p inside. part.others p (λ is. omega (arith, is, inside, home_room.1)) ∙ at.front p inside);
         rest = λ p out. let is = elsewhere l p out in part.others p (not_home l page s p place (is.home page lt) (is.home_copy page lt)) ∙ at.rest p out;
       }
 
@@ -398,9 +404,10 @@ module _ (l : Layout) (windows : List WeakRun) (choices : List (List (List ℕ))
     size : length e ≡ length at.image
     shows : ShowsPages l windows choices e
     others : (p : ℕ) → p ≢ 0 → p ≢ 4 → sector_at e p ≡ sector_at at.image p
+    says : SaysBut l first.image e
 
   rooted_here : Rooted at.image
-  rooted_here = record { size = refl; shows = at.shows; others = λ p a b. refl }
+  rooted_here = record { size = refl; shows = at.shows; others = λ p a b. refl; says = says_front l first.image at.image (3 * l.third) at.front }
 
   rooted_on : (e : Image) → Rooted e → (s : ℕ) → (s ≡ 0) ⊎ (s ≡ 4) → Rooted (with_sector e s (root_bytes l))
   rooted_on e rooted s place =
@@ -409,6 +416,7 @@ module _ (l : Layout) (windows : List WeakRun) (choices : List (List (List ℕ))
         size = length-set e s (Whole (root_bytes l)) ∙ rooted.size;
         shows = rooted_shows l windows (narrow l windows choices log first c) choices s e place room rooted.shows;
         others = λ p a b. with_other e s p (root_bytes l) (λ is. ⊎_elim (λ here. a (is ∙ here)) (λ here. b (is ∙ here)) place) ∙ rooted.others p a b;
+        says = λ k says. ⊎_elim (rooted.says k) inr (says_rooted e s (root_bytes l) room k says);
       }
 
   rooted_some : (e : Image) → Rooted e → (s : ℕ) → (s ≡ 0) ⊎ (s ≡ 4) → (k : ℕ) → k ≤ 1 → Rooted (stand e s (root_bytes l) k)
@@ -429,6 +437,7 @@ module _ (l : Layout) (windows : List WeakRun) (choices : List (List (List ℕ))
         log = λ s from inside. is.others s (λ e. omega (arith, e, from)) (λ e. omega (arith, e, from)) ∙ at.front s inside;
         closes = closes_same first.image (stand (stand at.image 0 (root_bytes l) roots.first) 4 (root_bytes l) roots.second)
             (is.others 8 (λ e. omega (arith, e)) (λ e. omega (arith, e)) ∙ at.front 8 (omega arith)) (is.others 12 (λ e. omega (arith, e)) (λ e. omega (arith, e)) ∙ at.front 12 (omega arith));
+        says = is.says;
         rest = λ s out. let other = elsewhere l s out in is.others s other.root other.root_copy ∙ at.rest s out;
       }
 

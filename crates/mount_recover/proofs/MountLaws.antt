@@ -26,9 +26,9 @@ use Rattle.fsd_sound.specs.Anchors.{anchor_of}
 use Rattle.fsd_sound.specs.Laid.{AllStand}
 use Rattle.fsd_sound.specs.Roots.{counted_root, root_at, root_of}
 use Rattle.fsd_sound.specs.Shown.{records_by, shown_by}
-use Rattle.fsd_sound.specs.Sound.{AllLieIn, EndIn, IsRootAt, IsRootOf, IsSaid, Says, ShowsOne, ShowsPages, weak_of}
+use Rattle.fsd_sound.specs.Sound.{AllLieIn, EndIn, IsRootAt, IsRootOf, IsSaid, Says, SaysNoMore, ShowsOne, ShowsPages, weak_of}
 use Rattle.fsd_sound.proofs.LogPlaces.{IsRecord, scan_records}
-use Rattle.fsd_sound.proofs.SaidLaws.{planned_beside, said_again, says_worn}
+use Rattle.fsd_sound.proofs.SaidLaws.{planned_beside, said_again, says_as, says_no_more_then, says_worn, worn_says}
 use Rattle.fsd_sound.proofs.SectorFacts.{not_damaged}
 use Rattle.fsd_sound.proofs.SavedLaws.{closes_more, worn_closes}
 use Rattle.fsd_sound.proofs.SoundLaws.{shows_still}
@@ -44,7 +44,7 @@ use Rattle.fsd_sound.specs.declared.fault.MountFault.TheVariants.{NotVolume, Dev
 use Rattle.mount_recover.specs.Finding.{HasSeenLog, NotFoundFor, IsNotFound, IsExcuse}
 use Rattle.fsd_sound.specs.Lost.{AreHomes, AreLoggedOn, AreHomesOn, AreCopiesOn, LosesShown, LostIn}
 use Rattle.fsd_sound.specs.Mounting.{HasRoot, last_epoch}
-use Rattle.mount_recover.specs.Mending.{IsLoadFault, AreOfAll, StaysElsewhere, KeepsUnwritten, IsSeen, Completed, StaysShown, HasSettled, StaysOrSettles}
+use Rattle.mount_recover.specs.Mending.{IsLoadFault, AreOfAll, SaysBut, StaysElsewhere, KeepsUnwritten, IsSeen, Completed, StaysShown, HasSettled, StaysOrSettles}
 use Rattle.log_thirds.specs.Anchoring.{in_next_epoch}
 use Rattle.fsd_log.proofs.SlotLaws.{no_records}
 use Rattle.mount_recover.specs.Recover.{IsFreshLog, IsRefusedFor, ShowsVolume}
@@ -66,10 +66,11 @@ root_stands l sectors i s planned room stands =
     ∙ ap (option_and_then (counted_root sectors)) (planned_root_is_read l planned)
     ∙ cond-true (nat_le l.sectors sectors) (Some l) None (le-leb l.sectors sectors room)
 
--- the root that the image tells is the layout, or one beside it, where a root says so
+-- the root that the image tells is the layout, or one beside it, and a root says so
 pub record TellsRoot (l : Layout) (sectors : ℕ) (i : Image) : Type 0 where
   pub layout : Layout
   pub said : IsSaid l i layout
+  pub says : Says layout i
   pub root : root_of sectors i ≡ Some layout
 
 module _ (l : Layout) (sectors : ℕ) (windows : List WeakRun) (choices : List (List (List ℕ))) (i : Image) (planned : IsPlanned l) (room : (k : Layout) → IsSaid l i k → k.sectors ≤ sectors) (shows : ShowsPages l windows choices i) where
@@ -77,12 +78,14 @@ module _ (l : Layout) (sectors : ℕ) (windows : List WeakRun) (choices : List (
   second_layout = shows.readable.roots.other
 
   -- a root of it counts
-  counts : (s : ℕ) (bytes : List ℕ) → sector_at i s ≡ Whole bytes → IsRootOf l second_layout bytes → (sector_at i s ≡ Whole (root_bytes second_layout) → Says second_layout i) → (k : Layout) × IsSaid l i k × (root_at sectors i s ≡ Some k)
-  counts s bytes there (inl is) says = (l, inl refl, root_stands l sectors i s planned (room l (inl refl)) (there ∙ ap (λ (b : List ℕ). Whole b) is))
+  counts : (s : ℕ) (bytes : List ℕ) → sector_at i s ≡ Whole bytes → IsRootOf l second_layout bytes → ((k : Layout) → sector_at i s ≡ Whole (root_bytes k) → Says k i) → (k : Layout) × IsSaid l i k × Says k i × (root_at sectors i s ≡ Some k)
+  counts s bytes there (inl is) says =
+      let at : sector_at i s ≡ Whole (root_bytes l) = there ∙ ap (λ (b : List ℕ). Whole b) is in
+      (l, inl refl, says l at, root_stands l sectors i s planned (room l (inl refl)) at)
   counts s bytes there (inr is) says =
       let at : sector_at i s ≡ Whole (root_bytes second_layout) = there ∙ ap (λ (b : List ℕ). Whole b) is in
-      let said : IsSaid l i second_layout = inr (shows.readable.roots.beside, says at) in
-      (second_layout, said, root_stands second_layout sectors i s (planned_beside l second_layout planned shows.readable.roots.beside) (room second_layout said) at)
+      let said : IsSaid l i second_layout = inr (shows.readable.roots.beside, says second_layout at) in
+      (second_layout, said, says second_layout at, root_stands second_layout sectors i s (planned_beside l second_layout planned shows.readable.roots.beside) (room second_layout said) at)
 
   pub root_shown : TellsRoot l sectors i
   root_shown = by_sector (sector_at i 0) refl
@@ -91,11 +94,11 @@ module _ (l : Layout) (sectors : ℕ) (windows : List WeakRun) (choices : List (
       by_sector Damaged is =
           let none : root_at sectors i 0 ≡ None = ap (λ (x : Sector). option_and_then (counted_root sectors) (option_and_then read_root (bytes_of x))) is in
           let second : IsRootAt l second_layout i 4 = ⊎_elim (λ first. absurd (not_damaged (sector_at i 0) first.0 first.1 is)) (λ there. there) shows.readable.roots.some in
-          let found = counts 4 second.0 second.1 second.2 (λ says. inr says) in
-          record { layout = found.0; said = found.1; root = ap (λ (r : Option Layout). first_whole r (root_at sectors i 4)) none ∙ found.2 }
+          let found = counts 4 second.0 second.1 second.2 (λ k says. inr says) in
+          record { layout = found.0; said = found.1; says = found.2; root = ap (λ (r : Option Layout). first_whole r (root_at sectors i 4)) none ∙ found.3 }
       by_sector (Whole bytes) is =
-          let found = counts 0 bytes is (shows.readable.roots.first bytes is) (λ says. inl says) in
-          record { layout = found.0; said = found.1; root = ap (λ (r : Option Layout). first_whole r (root_at sectors i 4)) found.2 }
+          let found = counts 0 bytes is (shows.readable.roots.first bytes is) (λ k says. inl says) in
+          record { layout = found.0; said = found.1; says = found.2; root = ap (λ (r : Option Layout). first_whole r (root_at sectors i 4)) found.3 }
 
 planned_said : (l : Layout) (i : Image) (k : Layout) → IsSaid l i k → IsPlanned l → IsPlanned k
 planned_said l i k (inl is) planned = subst (λ (x : Layout). IsPlanned x) (sym is) planned
@@ -149,6 +152,7 @@ module _ (sectors : ℕ) (l : Layout) (windows : List WeakRun) (choices : List (
         stage = inl (record { present = ap (λ (w : Windows). w.present) wears.windows; shows = shows_worn left.image wears.image; closes = worn_closes (weak_of windows) old.image left.image worn });
         order = inl (λ s from. worn.each s);
         rest = λ s out. worn.each s;
+        says = worn_says (weak_of windows) old.image left.image worn;
         said = wears.said;
       }
 
@@ -201,12 +205,22 @@ module _ (sectors : ℕ) (l : Layout) (windows : List WeakRun) (choices : List (
     from_one : (s : ℕ) (x : Sector) → SectorWorn (weak_of windows s) (sector_at one.image s) x → SectorWorn (weak_of windows s) (sector_at old.image s) x
     from_one s x later = worn_twice (weak_of windows s) (sector_at old.image s) (sector_at one.image s) x (first_worn s) later
 
+    says_one : SaysNoMore old.image one.image
+    says_one = worn_says (open_damage old.windows) old.image one.image wears.image
+
+    -- a root said the layout
+    took_says : Says l old.image
+    took_says =
+        let told = root_shown l sectors windows choices is.seen start.planned (λ k said. start.fits k (said_worn l old.image is.seen (open_damage old.windows) k is.from said)) (shows_worn is.seen is.from) in
+        says_worn l old.image is.seen (open_damage old.windows) is.from (subst (λ (k : Layout). Says k is.seen) (same_Some told.layout l (sym told.root ∙ is.root)) told.says)
+
     pub replays_from : (left : Moment) → Replays l windows choices one left → Replays l windows choices old left
     replays_from left now = record {
       stage = ⊎_elim (λ before. inl (record { present = before.present ∙ ap (λ (w : Windows). w.present) wears.windows; shows = before.shows; closes = closes_more old.image one.image left.image (worn_closes (open_damage old.windows) old.image one.image wears.image) before.closes })) (λ after. inr after) now.stage;
       order = ⊎_elim (λ kept. inl (λ s from. from_one s (sector_at left.image s) (kept s from)))
           (λ done. inr (record { seen = done.seen; worn = worn_trans (weak_of windows) old.image one.image done.seen (weaker old.image one.image wears.image) done.worn; anchor = done.anchor; taken = done.taken; last = done.last })) now.order;
       rest = λ s out. from_one s (sector_at left.image s) (now.rest s out);
+      says = says_no_more_then old.image one.image left.image says_one now.says;
       said = now.said ∙ wears.said;
     }
 
@@ -230,6 +244,9 @@ module _ (sectors : ℕ) (l : Layout) (windows : List WeakRun) (choices : List (
       rest_two : (left : Moment) → WritesAsMount l (weak_of windows) two left → WritesAsMount l (weak_of windows) old left
       rest_two left on s out = from_one s (sector_at left.image s) (worn_twice (weak_of windows s) (sector_at one.image s) (sector_at two.image s) (sector_at left.image s) (done.rest s out) (on s out))
 
+      says_two : (left : Moment) → SaysBut l two.image left.image → SaysNoMore old.image left.image
+      says_two left but k says = ⊎_elim (λ was. says_one k (done.says k was)) (λ same. says_as l k old.image same took_says) (but k says)
+
       pub stays_replays : (left : Moment) → StaysShown l windows choices two left → Replays l windows choices old left
       stays_replays left at =
           let worn : IsWorn (weak_of windows) at.image left.image = open_is_weak two.windows windows at.image left.image done.is.ends at.holds.worn in
@@ -242,11 +259,12 @@ module _ (sectors : ℕ) (l : Layout) (windows : List WeakRun) (choices : List (
             });
             order = inr (in_order left (λ s from inside. worn_twice (weak_of windows s) (sector_at two.image s) (sector_at at.image s) (sector_at left.image s) (inl (at.log s from inside)) (worn.each s)));
             rest = rest_two left (λ s out. worn_twice (weak_of windows s) (sector_at two.image s) (sector_at at.image s) (sector_at left.image s) (inl (at.rest s out)) (worn.each s));
+            says = says_two left (λ k says. at.says k (says_worn k at.image left.image (weak_of windows) worn says));
             said = at.holds.said ∙ done.said ∙ wears.said;
           }
 
       settled_replays : (left : Moment) → HasSettled l windows choices two left → Replays l windows choices old left
-      settled_replays left at = record { stage = inr at.after; order = inr (in_order left at.log); rest = rest_two left at.rest; said = at.said ∙ done.said ∙ wears.said }
+      settled_replays left at = record { stage = inr at.after; order = inr (in_order left at.log); rest = rest_two left at.rest; says = says_two left at.says; said = at.said ∙ done.said ∙ wears.said }
 
       pub begins_replays : (left : Moment) → StaysOrSettles l windows choices two left → Replays l windows choices old left
       begins_replays left (inl at) = stays_replays left at

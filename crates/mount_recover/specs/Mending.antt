@@ -14,7 +14,7 @@ use Rattle.fsd_sound.specs.Anchors.{anchor_of}
 use Rattle.fsd_sound.specs.Saved.{ClosesNone}
 use Rattle.fsd_sound.specs.Laid.{AllLaid}
 use Rattle.fsd_sound.specs.Shown.{records_by, shown}
-use Rattle.fsd_sound.specs.Sound.{weak_of, EndIn, ShowsPages}
+use Rattle.fsd_sound.specs.Sound.{weak_of, EndIn, Says, SaysNoMore, ShowsPages}
 use Rattle.log_thirds.specs.Append.{IsIndexed}
 use Rattle.log_thirds.specs.Copies.{AreLastCopies}
 use Rattle.log_thirds.specs.LogValue.{LogValue}
@@ -74,6 +74,10 @@ pub record KeepsUnwritten (l : Layout) (old new : Moment) : Type 0 where
   pub said : new.said ≡ old.said
   pub rest : StaysElsewhere l old new
 
+-- each layout that a root of the second image says was said by one of the first, or has the root of this one
+abbrev pub SaysBut : Layout → Image → Image → Type 0
+SaysBut l i j = (k : Layout) → Says k j → Says k i ⊎ (root_bytes l ≡ root_bytes k)
+
 -- where a mount does not write, the images agree
 abbrev pub SameElsewhere : Layout → Image → Image → Type 0
 SameElsewhere l i j = (s : ℕ) → IsFalse (mount_writes l s) → sector_at j s ≡ sector_at i s
@@ -117,13 +121,14 @@ pub record IsCompleted (l : Layout) (windows : List WeakRun) (choices : List (Li
   pub chosen : Contains choices pages
 
 -- So it is, and the last record of the log that was seen has its copies, however the run wears from then on;
--- nothing behind the log was written.
+-- nothing behind the log was written, and no root.
 pub record Completed (l : Layout) (windows : List WeakRun) (choices : List (List (List ℕ))) (log : LogValue) (old : Moment) (seen : IsSeen l windows choices log old) (new : Moment) : Type 0 where
   pub is : IsCompleted l windows choices log new
   pub last : HasLastCopies l log.anchor (weak_of windows) (records_by l seen.image log.anchor) new.image
   pub kept : KeepsBehindLog l (weak_of windows) old.image new.image
   pub rest : WritesAsMount l (weak_of windows) old new
   pub closes : ClosesNone old.image new.image
+  pub says : SaysNoMore old.image new.image
   pub present : new.windows.present ≡ old.windows.present
   pub said : new.said ≡ old.said
 
@@ -172,13 +177,15 @@ pub record IsMended (l : Layout) (windows : List WeakRun) (choices : List (List 
   pub rest : SameElsewhere l first.image image
 
 -- A moment from `healing` on: it is worn from an image that shows the pages, and has the log as it was,
--- and what lies where a mount does not write. What says there that the volume was closed said so before.
+-- and what lies where a mount does not write. What says there that the volume was closed said so before. The only roots
+-- that were written are the layout's.
 pub record StaysShown (l : Layout) (windows : List WeakRun) (choices : List (List (List ℕ))) (first left : Moment) : Type 0 where
   pub image : Image
   pub holds : Holds first image left
   pub shows : ShowsPages l windows choices image
   pub log : (s : ℕ) → 16 ≤ s → s < 16 + 3 * l.third → sector_at image s ≡ sector_at first.image s
   pub closes : ClosesNone first.image image
+  pub says : SaysBut l first.image image
   pub rest : SameElsewhere l first.image image
 
 -- So it is, or the mount has settled.
@@ -186,6 +193,7 @@ pub record HasSettled (l : Layout) (windows : List WeakRun) (choices : List (Lis
   pub after : IsBehindSettle l windows choices left
   pub log : (s : ℕ) → 16 ≤ s → s < 16 + 3 * l.third → SectorWorn (weak_of windows s) (sector_at first.image s) (sector_at left.image s)
   pub rest : WritesAsMount l (weak_of windows) first left
+  pub says : SaysBut l first.image left.image
   pub said : left.said ≡ first.said
 
 abbrev pub StaysOrSettles : Layout → List WeakRun → List (List (List ℕ)) → (first left : Moment) → Type 0

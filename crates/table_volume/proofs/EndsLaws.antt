@@ -77,6 +77,7 @@ module _ (sectors : ℕ) (l : Layout) (windows : List WeakRun) (h : List Change)
     present = still;
     said = replays.said;
     sound = staged replays.stage;
+    says = replays.says;
     writes = replays.rest;
   }
     where
@@ -116,7 +117,7 @@ module _ (sectors : ℕ) (l : Layout) (windows : List WeakRun) (h : List Change)
     same = data_stays l (weak_of windows) old mid exit.rest
 
     since : (left : Moment) → Wears mid left → SoundSince l windows done.after.run h (count sectors l windows h f old begun lists log mid done short) old left
-    since left wears = since_settled sectors l windows h f old begun lists log mid done short (data_stays l (weak_of windows) old mid exit.rest) exit.said exit.rest left wears
+    since left wears = since_settled sectors l windows h f old begun lists log mid done short (data_stays l (weak_of windows) old mid exit.rest) exit.said exit.rest exit.says left wears
 
     at_mid : Wears mid mid
     at_mid = record { image = worn_refl _ mid.image; windows = refl; said = refl }

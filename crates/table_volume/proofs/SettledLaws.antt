@@ -28,7 +28,7 @@ use Rattle.fsd_sound.specs.Laid.{HasOwnLog}
 use Rattle.fsd_sound.specs.Choices.{TellsChoices}
 use Rattle.fsd_sound.specs.Mounted.{IsFreshlyMounted, IsMounted, Mounted, SameData}
 use Rattle.fsd_sound.specs.Shown.{all_pages, records_by, shown, shown_by}
-use Rattle.fsd_sound.specs.Sound.{EndIn, ShowsOne, ShowsPages, weak_of}
+use Rattle.fsd_sound.specs.Sound.{EndIn, SaysNoMore, ShowsOne, ShowsPages, weak_of}
 use Rattle.fsd_sound.specs.Windows.{IsApart}
 use Rattle.fsd_sound.specs.Writes.{WritesAsMount}
 use Rattle.fsd_sound.specs.declared.fault.MountFault.{MountFault}
@@ -36,6 +36,7 @@ use Rattle.fsd_sound.specs.declared.fault.MountFault.TheVariants.{Device, Memory
 use Rattle.fsd_sound.proofs.EachLaws.{each_size}
 use Rattle.fsd_sound.proofs.LaidLaws.{own_worn}
 use Rattle.fsd_sound.proofs.MountedLaws.{fresh_mounted as mounted_fresh, one_of}
+use Rattle.fsd_sound.proofs.SaidLaws.{says_no_more_then, worn_says}
 use Rattle.fsd_sound.proofs.SoundLaws.{shows_still, sound_still, weak_within_hurt}
 use Rattle.fsd_sound.proofs.WindowLaws.{apart_narrow, last_snoc, open_is_weak, borne_apart}
 use Rattle.log_thirds.specs.LogValue.{LogValue}
@@ -142,12 +143,13 @@ module _ (sectors : ℕ) (l : Layout) (windows : List WeakRun) (h : List Change)
   module _ (same : SameData l (weak_of windows) old.image mid.image) (said : mid.said ≡ old.said) (rest : WritesAsMount l (weak_of windows) old mid) where
     -- ---- each moment since
 
-    pub since_settled : (left : Moment) → Wears mid left → SoundSince l windows run h count old left
-    since_settled left wears = record {
+    pub since_settled : SaysNoMore old.image mid.image → (left : Moment) → Wears mid left → SoundSince l windows run h count old left
+    since_settled says left wears = record {
       settled = wears.windows ∙ done.after.settled;
       said = wears.said ∙ said;
       sound = sound_still l later (apart_narrow l later apart_later) (take count h) count mid.image left.image (worn_later left.image wears.image)
           (sound_since sectors l windows h f old begun lists run pages done.after.chosen mid.image done.after.shows done.after.opened same);
+      says = says_no_more_then old.image mid.image left.image says (worn_says (open_damage mid.windows) mid.image left.image wears.image);
       writes = λ s out. worn_both (weak_of windows s) (in_weak_run run s) (sector_at old.image s) (sector_at mid.image s) (sector_at left.image s) (rest s out) (worn_in s (wears.image.each s));
     }
       where
