@@ -17,7 +17,7 @@ use Rattle.fsd_sound.specs.Laid.{HasOwnRoots}
 use Rattle.fsd_sound.specs.Mounted.{telling_of}
 use Rattle.fsd_sound.specs.Mounting.{last_epoch}
 use Rattle.fsd_sound.specs.Shown.{told}
-use Rattle.fsd_sound.specs.Sound.{IsPrefixOf, IsSaid, IsSound, Says, weak_of}
+use Rattle.fsd_sound.specs.Sound.{EachSaid, IsPrefixOf, IsSaid, IsSound, Says, weak_of}
 use Rattle.fsd_sound.specs.Windows.{IsNamedSince}
 use Rattle.fsd_texts.specs.declared.fault.Fault.{Fault}
 use Rattle.fsd_texts.specs.declared.fault.Fault.TheVariants as Ends
@@ -77,11 +77,19 @@ pub record LeftByTurns (l : Layout) (windows : List WeakRun) (run : WeakRun) (h 
   pub enough : forced_in (take whole turns) ≤ forced
   pub sound : IsSound l (windows ++ run ∷ []) (take n h ++ changes_in (take (suc whole) turns)) (n + forced) left.image
 
--- Of one command by itself: each layout that a root says is this one, or was said by one before. Nothing is said but some
--- first bytes of a fault's line, or none; or both roots are those of this layout.
-pub record LeavesRoots (own : Layout) (weak : Sectors) (old left : Moment) : Type 0 where
-  pub says : (l : Layout) → Says l left.image → (l ≡ own) ⊎ Says l old.image
-  pub replied : ((part : List ℕ) × SaysFault part × (left.said ≡ old.said ++ part)) ⊎ HasOwnRoots own weak left.image
+-- nothing is said but some first bytes of a fault's line, or none; or both roots are those of this layout
+abbrev pub IsRooted : Layout → Sectors → (old left : Moment) → Type 0
+IsRooted own weak old left = ((part : List ℕ) × SaysFault part × (left.said ≡ old.said ++ part)) ⊎ HasOwnRoots own weak left.image
+
+-- a root says it at this moment, or at one before it since its last sync, which may be what is on the disk
+abbrev pub WasSaid : (Past : ℕ → Moment → Type 0) → Moment → Layout → Type 0
+WasSaid Past old l = (c : Moment) × Past old.synced c × (c.time ≤ old.time) × Says l c.image
+
+-- Of one command by itself: each layout that a root says is this one, or was said as the run began; and no byte of its reply
+-- is said before both roots are those of this one.
+pub record LeavesRoots (own : Layout) (weak : Sectors) (Past : ℕ → Moment → Type 0) (old left : Moment) : Type 0 where
+  pub says : EachSaid left.image (λ l. (l ≡ own) ⊎ WasSaid Past old l)
+  pub replied : IsRooted own weak old left
 
 -- where the words ask for one command by itself, which takes no input
 abbrev pub IfOne : Request → Type 0 → Type 0
@@ -252,7 +260,7 @@ pub record LeavesMounted (request : Request) (input rest : List ℕ) (l : Layout
   pub cause : CutCause run.cut input rest before after
   pub moments : Only (Left l windows next h f count (run_turns run) old)
   pub later : (left : Moment) → Stops at left → LeftByTurns l windows next h count (run_turns run) old left
-  pub rooted : IfOne request (Only (LeavesRoots (run_end run).layout (weak_of (windows ++ next ∷ [])) old))
+  pub rooted : IfOne request (Only (LeavesRoots (run_end run).layout (weak_of (windows ++ next ∷ [])) Past old))
   pub exit : LeftByTurns l windows next h count (run_turns run) old new
   pub ends : (IsThrough run × IsReplied l windows next h count (run_turns run) (run_status run) (run_end run) Held old new result) ⊎ (IsUnsaid before after result ⊎ IsBrokenOff request (IsUndone l (windows ++ next ∷ []) (take count h) count (run_turns run)) (IsUnderWay l (windows ++ next ∷ []) (take count h) count (run_turns run) Held) before after (run_turns run) old new result)
 

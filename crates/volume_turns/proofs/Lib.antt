@@ -61,6 +61,7 @@ pub mod ScrubLaws
 pub mod SeatLaws
 pub mod SpeaksLaws
 pub mod StatusLaws
+pub mod StaysLaws
 pub mod StepLaws
 pub mod SyncLaws
 pub mod TakingLaws
