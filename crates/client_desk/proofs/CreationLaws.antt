@@ -153,6 +153,7 @@ module _ {S : Type 0} (state : S → State) (has : S → Mounted → List Placed
   pub leaves_all : (v : S) (desk : List Client) (may : Sectors) (now : Moment) → LeavesOf state has v desk may now now
   leaves_all v desk may now k opens sits = record {
     sound = mounted_sound k.mounted k.windows k.changes (forced_of k) now.image sits.stands.disk;
+    roots = sits.stands.disk.over.own.roots;
     windows = refl;
     said = refl;
     touches = record { size = refl; others = λ s out. inl refl };
@@ -161,6 +162,7 @@ module _ {S : Type 0} (state : S → State) (has : S → Mounted → List Placed
   pub leaves_as_was : (v : S) (may : Sectors) (now : Moment) → Leaves state has v may now now
   leaves_as_was v may now k stands = record {
     sound = mounted_sound k.mounted k.windows k.changes (forced_of k) now.image stands.disk;
+    roots = stands.disk.over.own.roots;
     windows = refl;
     said = refl;
     touches = record { size = refl; others = λ s out. inl refl };

@@ -114,6 +114,7 @@ module _ {S : Type 0} (state : S → State) (has : S → Mounted → List Placed
       let l = leaves k stands in
       record {
         sound = l.sound;
+        roots = l.roots;
         windows = l.windows;
         said = l.said;
         touches = touches_data w first len old left l.touches;
@@ -122,6 +123,7 @@ module _ {S : Type 0} (state : S → State) (has : S → Mounted → List Placed
   pub leaves_still : (v : S) (client : Client) (may : Sectors) (now : Moment) → LeavesFor state has v client may now now
   leaves_still v client may now k y serves stands = record {
     sound = mounted_sound k.mounted k.windows k.changes (forced_of k) now.image stands.disk;
+    roots = stands.disk.over.own.roots;
     windows = refl;
     said = refl;
     touches = record { size = refl; others = λ s out. inl refl };
@@ -301,6 +303,7 @@ module _ (may : Sectors) (a b left : Moment) where
   pub leaves_both : (k : Known) (o : OpenParts) → LeavesSound k may a b → LeavesSound (with_opened k o) may b left → LeavesSound k may a left
   leaves_both k o first second = record {
     sound = second.sound;
+    roots = second.roots;
     windows = second.windows ∙ first.windows;
     said = second.said ∙ first.said;
     touches = touches_both first.windows first.touches second.touches;

@@ -134,6 +134,7 @@ module _ {S : Type 0} (state : S → State) (has : S → Mounted → List Placed
   pub led_here : (v : S) (now : Moment) → LeavesLed state has v now now
   led_here v now k stands = record {
     sound = mounted_sound k.mounted k.windows k.changes (forced_of k) now.image stands.disk;
+    roots = stands.disk.over.own.roots;
     windows = refl;
     said = refl;
     touches = record { size = refl; others = λ s out. inl refl };
@@ -154,6 +155,7 @@ module _ {S : Type 0} (state : S → State) (has : S → Mounted → List Placed
     pub led_wears : b.said ≡ a.said → (left : Moment) → Wears b left → Stands state has y k left → LeavesSound k (is_leader (volume_of k).entries) a left
     led_wears said left worn stands = record {
       sound = mounted_sound k.mounted k.windows k.changes (forced_of k) left.image stands.disk;
+      roots = stands.disk.over.own.roots;
       windows = worn.windows ∙ led.windows;
       said = worn.said ∙ said;
       touches = touches_then (is_leader led.front) (is_leader led.front) (is_leader (volume_of k).entries) a b left
@@ -214,6 +216,7 @@ module _ {S : Type 0} (state : S → State) (has : S → Mounted → List Placed
       pub led_leaves : b.said ≡ a.said → (left : Moment) → LeavesSound k (λ s. s == leader_place e) c left → LeavesSound k (is_leader (volume_of k).entries) a left
       led_leaves said left leaves = record {
         sound = leaves.sound;
+        roots = leaves.roots;
         windows = leaves.windows ∙ windows;
         said = leaves.said ∙ reads.said ∙ said;
         touches = touches_then (is_leader led.front) (λ s. s == leader_place e) (is_leader (volume_of k).entries) a c left

@@ -26,8 +26,9 @@ use Rattle.fsd_files.specs.Space.{Apart}
 use Rattle.fsd_files.specs.Volume.{Volume, plans_of}
 use Rattle.fsd_files.specs.Waiting.{is_leader}
 use Rattle.fsd_files.proofs.ScrubLaws.{counts_as, picks_longer}
+use Rattle.fsd_sound.specs.Laid.{HasOwnRoots}
 use Rattle.fsd_sound.specs.Mounted.{Mounted}
-use Rattle.fsd_sound.specs.Sound.{IsSound, is_home, is_twin}
+use Rattle.fsd_sound.specs.Sound.{IsSound, is_home, is_twin, weak_of}
 use Rattle.fsd_sound.specs.Writes.{force_writes, mount_writes}
 use Rattle.fsd_sound.proofs.MoreLaws.{sound_fewer}
 use Rattle.fsd_sound.proofs.MountedLaws.{mounted_sound}
@@ -117,6 +118,7 @@ module _ (k : Known) (l : Layout) (same : k.mounted.volume.layout ≡ l) (a b : 
   pub twins_leave : LeavesSound k (is_twin l) a b → LeavesSound k (heal_writes k) a b
   twins_leave leaves = record {
     sound = leaves.sound;
+    roots = leaves.roots;
     windows = leaves.windows;
     said = leaves.said;
     touches = record { size = leaves.touches.size; others = λ s out. leaves.touches.others s (twin_part k l same s out) };
@@ -127,6 +129,7 @@ module _ (k : Known) (l : Layout) (same : k.mounted.volume.layout ≡ l) (a b : 
     pub leaders_leave : Touches (is_twin l) a b → LeavesSound k (is_leader (volume_of k).entries) b left → LeavesSound k (heal_writes k) a left
     leaders_leave first leaves = record {
       sound = leaves.sound;
+      roots = leaves.roots;
       windows = leaves.windows ∙ windows;
       said = leaves.said ∙ said;
       touches = touches_then (is_twin l) (is_leader (volume_of k).entries) (heal_writes k) a b left (twin_part k l same) (leader_part k) windows first leaves.touches;
@@ -136,6 +139,7 @@ module _ (k : Known) (l : Layout) (same : k.mounted.volume.layout ≡ l) (a b : 
     pub reads_leave : {S : Type 0} (state : S → State) (has : S → Mounted → List Placed → Type 0) (v : S) → Touches (heal_writes k) a b → Wears b left → Stands state has v k left → LeavesSound k (heal_writes k) a left
     reads_leave state has v first worn stands = record {
       sound = mounted_sound k.mounted k.windows k.changes (forced_of k) left.image stands.disk;
+      roots = stands.disk.over.own.roots;
       windows = worn.windows ∙ windows;
       said = worn.said ∙ said;
       touches = touches_then (heal_writes k) (heal_writes k) (heal_writes k) a b left (λ s out. out) (λ s out. out) windows first (worn_touches (heal_writes k) b left worn.image);
@@ -250,6 +254,7 @@ module _ (k after : Known) (forces : IsForcedFrom k after) where
           (subst (λ (x : Layout). IsSound x k.windows k.changes (forced_of after) left.image) same_layout
           (subst (λ (w : List WeakRun). IsSound after.mounted.volume.layout w k.changes (forced_of after) left.image) forces.windows
           (subst (λ (h : List Change). IsSound after.mounted.volume.layout after.windows h (forced_of after) left.image) forces.changes leaves.sound)));
+      roots = subst (λ (x : Layout). HasOwnRoots x (weak_of k.windows) left.image) same_layout (subst (λ (w : List WeakRun). HasOwnRoots after.mounted.volume.layout (weak_of w) left.image) forces.windows leaves.roots);
       windows = leaves.windows ∙ windows;
       said = leaves.said ∙ said;
       touches = all_touched left leaves.touches;
@@ -298,6 +303,7 @@ forced_from k after reply answers = record {
 pub force_leaves : (k : Known) (l : Layout) → k.mounted.volume.layout ≡ l → (a left : Moment) → LeavesSound k (force_writes l) a left → LeavesSound k (heal_writes k) a left
 force_leaves k l same a left leaves = record {
   sound = leaves.sound;
+  roots = leaves.roots;
   windows = leaves.windows;
   said = leaves.said;
   touches = record { size = leaves.touches.size; others = λ s out. leaves.touches.others s (subst (λ (x : Layout). IsFalse (force_writes x s)) same (force_out k.mounted.volume.layout s (mount_part k s out))) };

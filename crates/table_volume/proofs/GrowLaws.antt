@@ -32,9 +32,9 @@ use Rattle.fsd_sound.proofs.SaidLaws.{own_alone, says_worn}
 use Rattle.fsd_sound.proofs.SizedLaws.{records_sized}
 use Rattle.fsd_sound.proofs.WindowLaws.{open_is_weak}
 use Rattle.twin_home.specs.Heal.{RootsIn}
-use Rattle.volume_contract.specs.Growth.{LeavesGrown, LeavesLonger, grown_known}
+use Rattle.volume_contract.specs.Growth.{LeavesGrown, grown_known}
 use Rattle.volume_contract.specs.Order.{Comes, Roots, Test, grow_steps, is_idle, is_root}
-use Rattle.volume_contract.specs.State.{Known, StandWritten, Stands, State, forced_of}
+use Rattle.volume_contract.specs.State.{Known, LeavesRelaid, StandWritten, Stands, State, forced_of}
 use Rattle.volume_laws.specs.Grown.{value_grown}
 use Rattle.volume_laws.specs.State.{IsMemoryOf, state}
 use Rattle.volume_laws.specs.Volume.{IsWholeVolume, VolumeValue}
@@ -42,7 +42,7 @@ use Rattle.volume_laws.specs.WearLaws.{stands_worn}
 use Rattle.volume_laws.proofs.GrowthLaws.{memory_grown, whole_grown}
 use Rattle.volume_laws.proofs.ListLaws.{lists_of}
 use Rattle.volume_laws.proofs.SpaceLaws.{same_free, same_freed, same_unfinished, same_waiting}
-use Rattle.table_volume.proofs.UpgradeLaws.{roots_touch}
+use Rattle.table_volume.proofs.UpgradeLaws.{planned_own, roots_touch, still_relaid}
 use Rattle.table_volume.specs.Growing.{GrowsRoots, HasGrownRoots, grow_tests, longer}
 
 -- ---- the tests
@@ -126,18 +126,10 @@ module _ (n : ℕ) (old mid left : Moment) (extends : Extends n old mid) where
 
 -- ---- a volume that stands
 
-planned_own : (v : VolumeValue) (k : Known) (now : Moment) → Stands state IsMemoryOf v k now → IsPlanned k.mounted.volume.layout
-planned_own v k now stands = subst IsPlanned (sym stands.fits.layout) stands.holds.planned
-
 -- nothing is done
 pub grow_still : (n : ℕ) (v : VolumeValue) (now : Moment) → LeavesGrown state IsMemoryOf n v is_root now now
-grow_still n v now k stands = record {
-  sound = mounted_sound k.mounted k.windows k.changes (forced_of k) now.image stands.disk;
-  windows = refl;
-  said = refl;
-  says = λ l beside says. absurd (own_alone k.mounted.volume.layout l (weak_of k.windows) now.image (planned_own v k now stands) stands.disk.over.own.roots beside says);
-  touches = record { size = omega arith; most = omega arith; others = λ s out. inl refl };
-}
+grow_still n v now k stands =
+    still_relaid v k now (with_sectors n k.mounted.volume.layout) (TouchesLonger n is_root now now) stands (record { size = omega arith; most = omega arith; others = λ s out. inl refl })
 
 module _ (v : VolumeValue) (k : Known) (old : Moment) (n : ℕ) (larger : v.layout.sectors < n) (most : n ≤ most_of v.layout) (short : AreShort old.windows) (stands : Stands state IsMemoryOf v k old) where
   abbrev own : Layout
@@ -167,7 +159,7 @@ module _ (v : VolumeValue) (k : Known) (old : Moment) (n : ℕ) (larger : v.layo
 
   -- ---- each moment
 
-  pub grow_leaves : (left : Moment) → GrowsRoots n (root_bytes (with_sectors n v.layout)) old left → LeavesLonger k n is_root old left
+  pub grow_leaves : (left : Moment) → GrowsRoots n (root_bytes (with_sectors n v.layout)) old left → LeavesRelaid k (with_sectors n k.mounted.volume.layout) (TouchesLonger n is_root old left) old left
   grow_leaves left (inl wears) = record {
     sound = mounted_sound k.mounted k.windows k.changes (forced_of k) left.image (stands_worn v k old left short (record { image = wears.image; windows = wears.windows }) stands).disk;
     says = λ l beside says. absurd (own_alone k.mounted.volume.layout l (weak_of k.windows) old.image (planned_own v k old stands) stands.disk.over.own.roots beside

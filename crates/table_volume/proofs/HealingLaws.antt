@@ -163,6 +163,7 @@ twins_touch l old left heals = record {
 pub twins_leave : (v : VolumeValue) (old left : Moment) → AreShort old.windows → HealsTwins v.layout old left → Leaves state IsMemoryOf v (is_twin v.layout) old left
 twins_leave v old left short heals k stands = record {
   sound = mounted_sound k.mounted k.windows k.changes (forced_of k) left.image (stands_all v k old left short heals stands).disk;
+  roots = (stands_all v k old left short heals stands).disk.over.own.roots;
   windows = twins_windows v.layout old left heals;
   said = twins_said v.layout old left heals;
   touches = twins_touch v.layout old left heals;
@@ -171,6 +172,7 @@ twins_leave v old left short heals k stands = record {
 pub still_leaves : (v : VolumeValue) (may : Sectors) (at : Moment) → Leaves state IsMemoryOf v may at at
 still_leaves v may at k stands = record {
   sound = mounted_sound k.mounted k.windows k.changes (forced_of k) at.image stands.disk;
+  roots = stands.disk.over.own.roots;
   windows = refl;
   said = refl;
   touches = record { size = refl; others = λ s out. inl refl };

@@ -105,6 +105,7 @@ leader_touches e old left writes =
 pub leader_leaves : (v : VolumeValue) (e : Entry) → is_entry e ≡ true → (old left : Moment) → AreShort old.windows → WritesLeader e old left → LeavesWith state IsMemoryOf v e (λ s. s == leader_place e) old left
 leader_leaves v e good old left short writes k stands has = record {
   sound = mounted_sound k.mounted k.windows k.changes (forced_of k) left.image (stands_led v k old short stands e good has left writes).disk;
+  roots = (stands_led v k old short stands e good has left writes).disk.over.own.roots;
   windows = writes.holds.windows;
   said = writes.holds.said;
   touches = leader_touches e old left writes;
@@ -113,6 +114,7 @@ leader_leaves v e good old left short writes k stands has = record {
 pub still_leaves_with : (v : VolumeValue) (e : Entry) (may : Sectors) (at : Moment) → LeavesWith state IsMemoryOf v e may at at
 still_leaves_with v e may at k stands has = record {
   sound = mounted_sound k.mounted k.windows k.changes (forced_of k) at.image stands.disk;
+  roots = stands.disk.over.own.roots;
   windows = refl;
   said = refl;
   touches = record { size = refl; others = λ s out. inl refl };

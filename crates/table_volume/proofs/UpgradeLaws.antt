@@ -9,7 +9,7 @@ use Rattle.volume_layout.specs.declared.kind.Kind.TheVariants.{Two, Three}
 use Rattle.volume_layout.specs.declared.layout.Layout.{Layout}
 use Rattle.fsd_bytes.specs.declared.refusal.Refusal.TheVariants as Why
 use Rattle.volume_layout.specs.Kinds.{longest_of, other}
-use Rattle.volume_layout.specs.Layout.{data_start, turned, with_kind}
+use Rattle.volume_layout.specs.Layout.{IsPlanned, data_start, turned, with_kind}
 use Rattle.volume_layout.specs.Root.{root_bytes}
 use Rattle.volume_layout.proofs.RootLaws.{planned_alike, planned_bounds}
 use Rattle.sector_disk.specs.declared.sector.WeakRun.{WeakRun}
@@ -26,11 +26,13 @@ use Rattle.fsd_files.proofs.WaitLaws.{open_in_area}
 use Rattle.fsd_sound.specs.Laid.{StandsTwice}
 use Rattle.fsd_sound.specs.Mounted.{IsMounted}
 use Rattle.fsd_sound.specs.Shown.{records_by}
-use Rattle.fsd_sound.specs.Sound.{BearsLast, EndIn, weak_of}
+use Rattle.fsd_sound.specs.Sound.{BearsLast, EachBeside, EndIn, weak_of}
 use Rattle.fsd_sound.proofs.CommuteLaws.{with_other, with_same}
 use Rattle.fsd_sound.proofs.EmptyLaws.{none_yet}
+use Rattle.fsd_sound.proofs.MountedLaws.{mounted_sound}
 use Rattle.fsd_sound.proofs.OpenLaws.{drafts_worn}
-use Rattle.fsd_sound.proofs.TurningLaws.{own_turned, turned_mounted, turning_sound}
+use Rattle.fsd_sound.proofs.SaidLaws.{own_alone}
+use Rattle.fsd_sound.proofs.TurningLaws.{own_turned, turned_mounted, turning_says, turning_sound}
 use Rattle.fsd_sound.proofs.WindowLaws.{open_is_weak}
 use Rattle.fsd_sound.proofs.WritesLaws.{beside}
 use Rattle.fsd_log.specs.declared.slot.Slot.{Slot}
@@ -38,10 +40,11 @@ use Rattle.log_thirds.specs.Append.{of_kind}
 use Rattle.log_thirds.specs.Firsts.{AreFirsts}
 use Rattle.twin_home.specs.Heal.{RootsIn}
 use Rattle.volume_contract.specs.Order.{Roots, Test, is_idle, is_root, layout_is, upgrade_steps}
-use Rattle.volume_contract.specs.State.{Known, LeavesSound, StandWritten, Stands, State, forced_of}
-use Rattle.volume_contract.specs.Upgrade.{is_fresh, upgraded_known}
+use Rattle.volume_contract.specs.State.{Known, LeavesRelaid, StandWritten, Stands, State, forced_of}
+use Rattle.volume_contract.specs.Upgrade.{LeavesUpgraded, is_fresh, upgraded_known}
 use Rattle.volume_laws.specs.State.{IsMemoryOf, state}
 use Rattle.volume_laws.specs.Volume.{IsWholeVolume, VolumeValue}
+use Rattle.volume_laws.proofs.ForceMomentLaws.{touches_none}
 use Rattle.volume_laws.proofs.ListLaws.{lists_of}
 
 -- the volume with layout 2
@@ -126,6 +129,22 @@ busy_upgrade s up two idle =
 
 -- ---- a volume that stands
 
+pub planned_own : (v : VolumeValue) (k : Known) (now : Moment) → Stands state IsMemoryOf v k now → IsPlanned k.mounted.volume.layout
+planned_own v k now stands = subst IsPlanned (sym stands.fits.layout) stands.holds.planned
+
+-- where nothing is written no root says another layout
+pub still_relaid : (v : VolumeValue) (k : Known) (now : Moment) (l : Layout) (Touched : Type 0) → Stands state IsMemoryOf v k now → Touched → LeavesRelaid k l Touched now now
+still_relaid v k now l Touched stands touched = record {
+  sound = mounted_sound k.mounted k.windows k.changes (forced_of k) now.image stands.disk;
+  says = λ x beside says. absurd (own_alone k.mounted.volume.layout x (weak_of k.windows) now.image (planned_own v k now stands) stands.disk.over.own.roots beside says);
+  windows = refl;
+  said = refl;
+  touches = touched;
+}
+
+pub upgrade_still : (v : VolumeValue) (now : Moment) → LeavesUpgraded state IsMemoryOf v is_root now now
+upgrade_still v now k stands = still_relaid v k now (with_kind Three k.mounted.volume.layout) (Touches is_root now now) stands (touches_none is_root now)
+
 module _ (v : VolumeValue) (k : Known) (old : Moment) (two : v.layout.kind ≡ Two) (fresh : IsTrue (is_fresh (state v))) (stands : Stands state IsMemoryOf v k old) where
   kind_is : k.mounted.volume.layout.kind ≡ Two
   kind_is = ap (λ (l : Layout). l.kind) stands.fits.layout ∙ two
@@ -154,11 +173,13 @@ module _ (v : VolumeValue) (k : Known) (old : Moment) (two : v.layout.kind ≡ T
 
   -- ---- each moment
 
-  pub upgrade_leaves : (left : Moment) → RootsIn (root_bytes (with_kind Three v.layout)) old left → LeavesSound k is_root old left
+  pub upgrade_leaves : (left : Moment) → RootsIn (root_bytes (with_kind Three v.layout)) old left → LeavesRelaid k (with_kind Three k.mounted.volume.layout) (Touches is_root old left) old left
   upgrade_leaves left roots =
       let written : RootsIn (root_bytes (turned k.mounted.volume.layout)) old left = subst (λ (b : List ℕ). RootsIn b old left) root_is roots in
       record {
         sound = turning_sound k.mounted k.windows k.changes (forced_of k) old.image stands.disk few first both written.first written.second written.once written.once_more left.image (open_is_weak old.windows k.windows _ left.image stands.ends written.holds.worn);
+        says = subst (λ (l : Layout). EachBeside k.mounted.volume.layout left.image (λ x. x ≡ l)) turned_is
+            (turning_says k.mounted k.windows k.changes (forced_of k) old.image stands.disk few first both written.first written.second written.once written.once_more left.image (open_is_weak old.windows k.windows _ left.image stands.ends written.holds.worn));
         windows = roots.holds.windows;
         said = roots.holds.said;
         touches = roots_touch (root_bytes (with_kind Three v.layout)) old left roots;

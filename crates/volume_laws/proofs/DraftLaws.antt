@@ -103,7 +103,7 @@ module _ (v : VolumeValue) (whole : IsWholeVolume v) where
     pub leaves_drafts : Leaves state IsMemoryOf v may old new
     leaves_drafts k stands =
         let l = leaves_written (cleared v) (with_opened k (no_drafts k.opened)) old new may free writes (stands_cleared k old stands) short in
-        record { sound = l.sound; windows = l.windows; said = l.said; touches = l.touches }
+        record { sound = l.sound; roots = l.roots; windows = l.windows; said = l.said; touches = l.touches }
 
     -- so it does with the same creations, where what is written of them stands
     pub stands_again : (k : Known) → Stands state IsMemoryOf v k old → (drafts : List WrittenDraft) → map (λ x. x.runs) drafts ≡ map (λ x. x.runs) k.opened.drafts → AreWritten (in_runs k.windows) new.image drafts → AreWritten (open_damage new.windows) new.image drafts

@@ -190,7 +190,7 @@ module _ (v : VolumeValue) (runs : List Run) where
   pub leaves_led : (old left : Moment) → Leaves state IsMemoryOf v (in_leader runs) old left → Leaves state IsMemoryOf v (λ t. force_writes (state v).layout t || in_leader runs t) old left
   leaves_led old left leaves k stands =
       let l = leaves k stands in
-      record { sound = l.sound; windows = l.windows; said = l.said; touches = record { size = l.touches.size; others = λ s out. l.touches.others s (out_leader s out) } }
+      record { sound = l.sound; roots = l.roots; windows = l.windows; said = l.said; touches = record { size = l.touches.size; others = λ s out. l.touches.others s (out_leader s out) } }
 
   pub touches_led : (old left : Moment) → Touches (in_leader runs) old left → Touches (λ t. force_writes (state v).layout t || in_leader runs t) old left
   touches_led old left touches = record { size = touches.size; others = λ s out. touches.others s (out_leader s out) }

@@ -1,19 +1,21 @@
 -- What a force leaves of the disk of a volume that stands over it: at each moment its pages are those of before or the stamped ones, which tell the
 -- same table.
-use Rattle.std.proofs.Common.{◌≡◌, inl, inr, ℕ, ◌≤◌, true, List, [], ◌∷◌, length, Some, None, refl, sym, ap, subst, ◌∙◌, arith}
+use Rattle.std.proofs.Common.{◌≡◌, inl, inr, ⊎_elim, ℕ, ◌≤◌, true, List, [], ◌∷◌, length, Some, None, refl, sym, ap, subst, ◌∙◌, arith}
 use Rattle.std.specs.Prelude.{IsFalse}
 use Rattle.std.specs.List.{last_or}
 use Rattle.std.proofs.lemmas.Bool.{eq-eqb, or_left, or_right, le-leb, lt-ltb, and_from}
 use Rattle.volume_layout.specs.declared.layout.Layout.{Layout}
 use Rattle.volume_layout.specs.Layout.{home_a, home_b, map_start}
+use Rattle.volume_layout.specs.Root.{root_bytes}
 use Rattle.run_table.specs.Space.{contains}
 use Rattle.sector_disk.specs.Machine.{Moment}
 use Rattle.fsd_formats.specs.Record.{ascending}
 use Rattle.fsd_log.specs.Borne.{FitsStamp}
 use Rattle.fsd_table.specs.Table.{told_in, visits}
-use Rattle.fsd_files.specs.Disk.{Sectors, Touches, in_runs}
+use Rattle.fsd_files.specs.Disk.{Has, Sectors, Touches, in_runs}
+use Rattle.fsd_files.proofs.KeptLaws.{has_on}
 use Rattle.fsd_sound.specs.Mounted.{SameData, telling_of}
-use Rattle.fsd_sound.specs.Sound.{ShowsPages, is_home}
+use Rattle.fsd_sound.specs.Sound.{ShowsPages, is_home, weak_of}
 use Rattle.fsd_sound.proofs.MountedLaws.{force_sound, mounted_sound}
 use Rattle.fsd_sound.proofs.SoundLaws.{weak_within_hurt}
 use Rattle.fsd_sound.proofs.WindowLaws.{fewer}
@@ -50,6 +52,14 @@ writes_there l s (inr (inr home)) = or_right _ _ (home_there l s home)
 outside : (l : Layout) (s : ℕ) → IsFalse (force_writes l s) → MayWrite l s → ⊥
 outside l s out may = absurd (let is = writes_there l s may in cc (is, out))
 
+-- no root among them
+roots_outside : (l : Layout) (s : ℕ) → s ≤ 4 → MayWrite l s → ⊥
+roots_outside l s low (inl log) = omega (arith, low, log.0)
+roots_outside l s low (inr (inl (inl eight))) = omega (arith, low, eight)
+roots_outside l s low (inr (inl (inr twelve))) = omega (arith, low, twelve)
+roots_outside l s low (inr (inr (page, lt, inl first))) = omega (arith, low, first)
+roots_outside l s low (inr (inr (page, lt, inr second))) = omega (arith, low, second)
+
 -- a force writes nowhere else, whatever the disk shows
 pub force_touches : (v : VolumeValue) (old new : Moment) → IsWholeVolume v → KeepsOutside v.log.layout old new → Touches (force_writes v.layout) old new
 force_touches v old new whole keeps = record {
@@ -65,6 +75,7 @@ touches_none may at = record { size = refl; others = λ s out. inl refl }
 pub leaves_itself : (v : VolumeValue) (at : Moment) → Leaves state IsMemoryOf v (force_writes v.layout) at at
 leaves_itself v at k stands = record {
   sound = mounted_sound k.mounted k.windows k.changes (forced_of k) at.image stands.disk;
+  roots = stands.disk.over.own.roots;
   windows = refl;
   said = refl;
   touches = record { size = refl; others = λ s out. inl refl };
@@ -129,9 +140,16 @@ module _ (v : VolumeValue) (k : Known) (old : Moment) (whole : IsWholeVolume v) 
     shows : ShowsPages k.mounted.volume.layout k.windows (stands.disk.disk ∷ now ∷ []) left.image
     shows = subst (λ (l : Layout). ShowsPages l k.windows (stands.disk.disk ∷ now ∷ []) left.image) (sym layout_is) commits.shows
 
+    root_left : (s : ℕ) → s ≤ 4 → Has (weak_of k.windows) old.image (root_bytes k.mounted.volume.layout) s → Has (weak_of k.windows) left.image (root_bytes k.mounted.volume.layout) s
+    root_left s low =
+        has_on (weak_of k.windows) old.image left.image (root_bytes k.mounted.volume.layout) s
+        (⊎_elim (λ same. inl same) (λ hurt. inr (fewer (last_or None k.windows) old.windows.present old.windows.next stands.ends.last stands.ends.some s hurt.0, hurt.1))
+        (commits.outside.others s (roots_outside v.log.layout s low)))
+
     pub leaves_sound : LeavesSound k (force_writes v.layout) old left
     leaves_sound = record {
       sound = force_sound k.mounted k.windows k.changes (forced_of k) old.image left.image now stands.disk (same_data left commits.kept) commits.opened told_now shows;
+      roots = let own = stands.disk.over.own.roots in (root_left 0 (omega arith) own.0, root_left 4 (omega arith) own.1);
       windows = commits.windows;
       said = commits.said;
       touches = record { size = commits.outside.size; others = λ s out. commits.outside.others s (outside v.log.layout s (subst (λ (l : Layout). IsFalse (force_writes l s)) (sym whole.log) out)) };

@@ -174,6 +174,7 @@ module _ (v mid : VolumeValue) (need : ℕ) (old now left : Moment) (short : Are
       let there = stands_worn mid p.after now left short (record { image = wears.image; windows = wears.windows }) p.stands in
       sound_on k p.after (λ s. false) (put_writes (state v) need) old now left (on_ready need k mid now p) windows quiet (λ s out. refl) (first k stands) (record {
         sound = mounted_sound p.after.mounted p.after.windows p.after.changes (forced_of p.after) left.image there.disk;
+        roots = there.disk.over.own.roots;
         windows = wears.windows;
         said = wears.said;
         touches = record { size = wears.image.size; others = λ s out. wears.image.each s };

@@ -16,7 +16,8 @@ use Rattle.sector_disk.specs.Machine.{Moment, Wears}
 use Rattle.fsd_files.specs.Disk.{Sectors, SectorWorn, Touches}
 use Rattle.fsd_files.specs.Files.{Change}
 use Rattle.fsd_files.specs.Volume.{Volume, drawn, forced, forced_for_place, place_for}
-use Rattle.fsd_sound.specs.Sound.{IsSound}
+use Rattle.fsd_sound.specs.Laid.{HasOwnRoots}
+use Rattle.fsd_sound.specs.Sound.{IsSound, weak_of}
 use Rattle.fsd_sound.proofs.MoreLaws.{sound_fewer}
 use Rattle.volume_contract.specs.Order.{Disk, Draw, Force, IsDeviceIn, PassesTest, CallStep, Test, is_idle, place, with_drawn}
 use Rattle.fsd_sound.specs.Writes.{force_writes}
@@ -132,6 +133,7 @@ sound_on k after may_then may old now left on windows quiet more first second =
     (subst (λ (x : Layout). IsSound x after.windows after.changes (forced_of after) left.image) on.layout second.sound)) in
     record {
       sound = sound_fewer l k.windows k.changes (forced_of k) (forced_of after) left.image on.more there;
+      roots = subst (λ (w : List WeakRun). HasOwnRoots l (weak_of w) left.image) on.windows (subst (λ (x : Layout). HasOwnRoots x (weak_of after.windows) left.image) on.layout second.roots);
       windows = second.windows ∙ windows;
       said = second.said ∙ quiet;
       touches = touches_then may may_then may old now left windows (λ s out. out) more first.touches second.touches;
@@ -173,7 +175,7 @@ module _ (v : VolumeValue) (need : ℕ) where
   pub leaves_first : (old left : Moment) → Leaves state IsMemoryOf v (force_writes v.layout) old left → Leaves state IsMemoryOf v whole_may old left
   leaves_first old left leaves k stands =
       let l = leaves k stands in
-      record { sound = l.sound; windows = l.windows; said = l.said; touches = record { size = l.touches.size; others = λ s out. l.touches.others s (out_first s out) } }
+      record { sound = l.sound; roots = l.roots; windows = l.windows; said = l.said; touches = record { size = l.touches.size; others = λ s out. l.touches.others s (out_first s out) } }
 
   -- where it is touched, whatever the disk shows
   pub touches_first : (old left : Moment) → Touches (force_writes v.layout) old left → Touches whole_may old left

@@ -111,6 +111,7 @@ module _ (v : VolumeValue) (k : Known) (old left : Moment) (may : Sectors) (free
   pub leaves_written : AreShort old.windows → LeavesSound k may old left
   leaves_written short = record {
     sound = mounted_sound k.mounted k.windows k.changes (forced_of k) left.image (stands_written short).disk;
+    roots = (stands_written short).disk.over.own.roots;
     windows = writes.windows;
     said = writes.said;
     touches = writes.touches;
@@ -182,6 +183,7 @@ stands_drawn v k now stands = record {
 pub leaves_still : (v : VolumeValue) (now : Moment) (may : Sectors) → Leaves state IsMemoryOf v may now now
 leaves_still v now may k stands = record {
   sound = mounted_sound k.mounted k.windows k.changes (forced_of k) now.image stands.disk;
+  roots = stands.disk.over.own.roots;
   windows = refl;
   said = refl;
   touches = record { size = refl; others = λ s out. inl refl };

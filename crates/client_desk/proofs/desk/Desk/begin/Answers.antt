@@ -33,6 +33,7 @@ returns-in-Err-clause-disk g c =
     (writes_none at (λ left h is. g.met.M.Machine.only_now at left h is) (Leaves V.state V.holds c.args.v.now may)
     (λ h k stands. record {
       sound = mounted_sound k.mounted k.windows k.changes (forced_of k) (M.now at).image stands.disk;
+      roots = stands.disk.over.own.roots;
       windows = refl;
       said = refl;
       touches = record { size = refl; others = λ s out. inl refl };

@@ -11,15 +11,14 @@ use Rattle.sector_disk.proofs.CallLaws.{writes_more, writes_none}
 use Rattle.fsd_bytes.specs.declared.refusal.Refusal.TheVariants as Why
 use Rattle.twin_home.specs.Heal.{RootsIn}
 use Rattle.volume_contract.specs.Order.{is_root, layout_is, with_three}
-use Rattle.volume_contract.specs.State.{Leaves, Stands}
-use Rattle.volume_contract.specs.Upgrade.{upgraded_known}
+use Rattle.volume_contract.specs.State.{Stands}
+use Rattle.volume_contract.specs.Upgrade.{LeavesUpgraded, upgraded_known}
 use Rattle.volume_laws.specs.State.{IsMemoryOf, state}
 use Rattle.volume_laws.proofs.ForceMomentLaws.{touches_none}
 use Rattle.volume_laws.specs.Volume.{IsWholeVolume, VolumeValue}
 use Rattle.volume_laws.proofs.NextLaws.{up_by}
 use Rattle.table_volume.specs.declared.volume.Volume.TheInside.{Inside}
-use Rattle.table_volume.proofs.HealingLaws.{still_leaves}
-use Rattle.table_volume.proofs.UpgradeLaws.{busy_upgrade, roots_stand, roots_touch, stands_upgraded, upgrade_leaves, whole_upgraded, with_kind_three}
+use Rattle.table_volume.proofs.UpgradeLaws.{busy_upgrade, roots_stand, roots_touch, stands_upgraded, upgrade_leaves, upgrade_still, whole_upgraded, with_kind_three}
 use Rattle.table_volume.proofs.files.VolumeFiles.upgrade.Given as given
 use Rattle.table_volume.proofs.files.VolumeFiles.upgrade.Goals as goal
 use Rattle.std.proofs.lemmas.Result.{err_from_is_err_and}
@@ -39,7 +38,7 @@ was_two g c = ap (λ (x : VolumeValue). x.layout.kind) (sym c.self.view_is) ∙ 
 three_is : (g : given.Over) (c : After-write_roots g) → c.with_kind-layout.result ≡ with_kind Three c.args.self.now.layout
 three_is g c = c.with_kind-layout.ensures ∙ ap (λ (x : VolumeValue). with_kind Three x.layout) c.self.view_is
 
-leaves : (g : given.Over) (c : After-write_roots g) → (old left : Moment) → RootsIn (root_bytes c.with_kind-layout.result) old left → Leaves state IsMemoryOf c.args.self.now is_root old left
+leaves : (g : given.Over) (c : After-write_roots g) → (old left : Moment) → RootsIn (root_bytes c.with_kind-layout.result) old left → LeavesUpgraded state IsMemoryOf c.args.self.now is_root old left
 leaves g c old left roots k stands =
     upgrade_leaves c.args.self.now k old (was_two g c) c.requires.fresh stands left (subst (λ (l : Layout). RootsIn (root_bytes l) old left) (three_is g c) roots)
 
@@ -65,7 +64,7 @@ returns-in-Three-clause-order g c =
 pub returns-in-Three-clause-disk : goal.returns-in-Three-clause-disk
 returns-in-Three-clause-disk g c =
     let M = g.M.Machine in
-    writes_none c.args.m.now (λ left h is. g.met.M.Machine.only_now c.args.m.now left h is) (Leaves state IsMemoryOf c.args.self.now is_root) (λ h. still_leaves c.args.self.now is_root (M.now c.args.m.now))
+    writes_none c.args.m.now (λ left h is. g.met.M.Machine.only_now c.args.m.now left h is) (LeavesUpgraded state IsMemoryOf c.args.self.now is_root) (λ h. upgrade_still c.args.self.now (M.now c.args.m.now))
 
 pub returns-in-Three-clause-writes : goal.returns-in-Three-clause-writes
 returns-in-Three-clause-writes g c = record { rest = λ h. touches_none is_root (g.M.Machine.now c.args.m.now); counted = λ tells. (omega arith, omega arith) }
