@@ -53,6 +53,13 @@ says_no_more_then i j k first second l says = first l (second l says)
 pub says_as : (l k : Layout) (i : Image) → root_bytes k ≡ root_bytes l → Says l i → Says k i
 says_as l k i same = ⊎_elim (λ is. inl (is ∙ ap (λ (b : List ℕ). Whole b) (sym same))) (λ is. inr (is ∙ ap (λ (b : List ℕ). Whole b) (sym same)))
 
+-- what is so of each that is said stays so
+pub each_no_more : (i j : Image) (P : Layout → Type 0) → SaysNoMore i j → EachSaid i P → EachSaid j P
+each_no_more i j P less each k planned says = each k planned (less k says)
+
+pub worn_each : (weak : Sectors) (i j : Image) (P : Layout → Type 0) → IsWorn weak i j → EachSaid i P → EachSaid j P
+worn_each weak i j P w = each_no_more i j P (worn_says weak i j w)
+
 -- ---- layouts with the same root
 
 -- two that may be planned have different roots

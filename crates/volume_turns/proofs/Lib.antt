@@ -49,6 +49,7 @@ pub mod RelaidLaws
 pub mod RestoreLaws
 pub mod RestoreOutLaws
 pub mod RestoreTakingLaws
+pub mod RootedLaws
 pub mod RunLaws
 pub mod SaidLaws
 pub mod SayLaws
