@@ -15,14 +15,14 @@ use Rattle.fsd_files.specs.Files.{Change, after}
 use Rattle.fsd_files.proofs.WaitLaws.{open_in_area}
 use Rattle.fsd_sound.specs.Laid.{HasOwnLog}
 use Rattle.fsd_sound.specs.Mounted.{IsMounted, Mounted, SameData}
-use Rattle.fsd_sound.specs.Sound.{BearsLast, IsEither, IsSound, SaysTurned, ShowsPages, weak_of}
+use Rattle.fsd_sound.specs.Sound.{BearsLast, EachBeside, IsEither, IsSound, SaysTurned, ShowsPages, weak_of}
 use Rattle.fsd_sound.specs.Windows.{IsNarrow}
 use Rattle.fsd_sound.proofs.CommuteLaws.{with_other, with_same}
 use Rattle.fsd_sound.proofs.EmptyLaws.{empty_is_either, none_yet, own_anchor, own_log_turned}
 use Rattle.fsd_sound.proofs.LaidLaws.{own_worn}
 use Rattle.fsd_sound.proofs.MountedLaws.{data_behind, describes_data}
 use Rattle.fsd_sound.proofs.OpenLaws.{open_worn}
-use Rattle.fsd_sound.proofs.RootingLaws.{data_same, rooting_sound, two, two_is, two_roots, two_same, two_shows, with_roots}
+use Rattle.fsd_sound.proofs.RootingLaws.{data_same, rooting_says, rooting_sound, two, two_is, two_roots, two_same, two_shows, with_roots}
 use Rattle.fsd_sound.proofs.SoundLaws.{shows_still}
 use Rattle.fsd_sound.proofs.WindowLaws.{borne_apart, borne_narrow}
 
@@ -43,6 +43,9 @@ module _ (m : Mounted) (windows : List WeakRun) (h : List Change) (f : ℕ) (i :
   module _ (n more : ℕ) (once : n ≤ 1) (once_more : more ≤ 1) (j : Image) (worn : IsWorn (weak_of windows) (with_roots k i n more) j) where
     pub turning_sound : IsSound m.volume.layout windows h f j
     turning_sound = rooting_sound m windows h f i is k (inl refl) may_turn (λ s there. there) n more once once_more j worn
+
+    pub turning_says : EachBeside m.volume.layout j (λ x. x ≡ k)
+    turning_says = rooting_says m windows h f i is k (inl refl) may_turn (λ s there. there) n more once once_more j worn
 
   -- ---- the end
 

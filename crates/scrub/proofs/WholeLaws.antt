@@ -21,6 +21,7 @@ use Rattle.fsd_files.specs.Disk.{Image, SectorWorn, Sectors, Touches}
 use Rattle.fsd_files.specs.Files.{Change}
 use Rattle.fsd_files.specs.Kept.{IsWhole}
 use Rattle.fsd_files.specs.declared.reply.Reply.{Reply}
+use Rattle.fsd_files.specs.declared.reply.Reply.TheVariants as Replies
 use Rattle.fsd_files.specs.Scrub.{CountsHealed, CountsTwins, NeedsLeader, Picks, PicksSome, StandsLed, all_data, leader_place}
 use Rattle.fsd_files.specs.Space.{Apart}
 use Rattle.fsd_files.specs.Volume.{Volume, plans_of}
@@ -33,7 +34,8 @@ use Rattle.fsd_sound.specs.Writes.{force_writes, mount_writes}
 use Rattle.fsd_sound.proofs.MoreLaws.{sound_fewer}
 use Rattle.fsd_sound.proofs.MountedLaws.{mounted_sound}
 use Rattle.fsd_sound.proofs.WritesLaws.{data_elsewhere, elsewhere}
-use Rattle.volume_contract.specs.Ends.{Answers}
+use Rattle.volume_contract.specs.declared.files.Forced.{Forced}
+use Rattle.volume_contract.specs.Ends.{Answers, EndsForce}
 use Rattle.volume_contract.specs.Healing.{IsWholeBut, StandsStill, TwinsStand}
 use Rattle.volume_contract.specs.State.{State, Known, LeavesSound, Stands, forced_of, volume_of}
 use Rattle.scrub.specs.declared.whole.Healed.{Healed}
@@ -308,6 +310,12 @@ force_leaves k l same a left leaves = record {
   said = leaves.said;
   touches = record { size = leaves.touches.size; others = λ s out. leaves.touches.others s (subst (λ (x : Layout). IsFalse (force_writes x s)) same (force_out k.mounted.volume.layout s (mount_part k s out))) };
 }
+
+-- where it fails nothing is found
+pub force_fails : {S : Type 0} (state : S → State) (has : S → Mounted → List Placed → Type 0) (k : Known) (new : S) (a now : Moment) (found : List (Key × ℕ)) → found ≡ [] → (why : Refusal)
+    → (let r : Result Forced Refusal = Err why in EndsForce state has (λ met. force_outcome (volume_of k)) Replies.Forced k new now r) → (let r : Result Healed Refusal = Err why in EndsScrub state has k new a now found r)
+force_fails state has k new a now found none (Why.Device s) down = inl (down, none)
+force_fails state has k new a now found none why ends = absurd ends
 
 pub force_within : (l : Layout) (a b : Moment) → Touches (force_writes l) a b → Touches (scrub_writes l) a b
 force_within l a b first = record { size = first.size; others = λ s out. first.others s (force_out l s (or_parts (mount_writes l s) (is_data l s) out).0) }

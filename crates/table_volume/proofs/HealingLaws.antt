@@ -16,7 +16,7 @@ use Rattle.sector_disk.specs.Machine.{Holds as HoldsImage, Moment}
 use Rattle.sector_disk.proofs.Calm.{stand_one}
 use Rattle.sector_disk.proofs.Wear.{stand_other}
 use Rattle.fsd_log.specs.Scan.{Walked}
-use Rattle.fsd_files.specs.Disk.{Image, Sectors, Touches}
+use Rattle.fsd_files.specs.Disk.{Image, Touches}
 use Rattle.fsd_files.specs.Volume.{is_in}
 use Rattle.fsd_files.proofs.WaitLaws.{open_in_area}
 use Rattle.fsd_sound.specs.Mounted.{IsMounted}
@@ -167,15 +167,6 @@ twins_leave v old left short heals k stands = record {
   windows = twins_windows v.layout old left heals;
   said = twins_said v.layout old left heals;
   touches = twins_touch v.layout old left heals;
-}
-
-pub still_leaves : (v : VolumeValue) (may : Sectors) (at : Moment) → Leaves state IsMemoryOf v may at at
-still_leaves v may at k stands = record {
-  sound = mounted_sound k.mounted k.windows k.changes (forced_of k) at.image stands.disk;
-  roots = stands.disk.over.own.roots;
-  windows = refl;
-  said = refl;
-  touches = record { size = refl; others = λ s out. inl refl };
 }
 
 -- ---- what is told

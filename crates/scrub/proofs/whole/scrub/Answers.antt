@@ -8,7 +8,7 @@ use Rattle.scrub.specs.Scrub.{LeavesScrubbed, TellsScrub}
 use Rattle.volume_contract.specs.State.{State, force_len}
 use Rattle.scrub.proofs.KeptLaws.{clean_idle, idle_first, kept_all, kept_down, up_all, up_behind, up_busy, written_all}
 use Rattle.scrub.proofs.ToldLaws.{told_by}
-use Rattle.scrub.proofs.WholeLaws.{behind_leaves, force_leaves, force_rest, force_within, forced_from, scrub_ends}
+use Rattle.scrub.proofs.WholeLaws.{behind_leaves, force_fails, force_leaves, force_rest, force_within, forced_from, scrub_ends}
 use Rattle.scrub.proofs.whole.scrub.Goals as goal
 
 pub returns-in-Ok-clause-disk : goal.returns-in-Ok-clause-disk
@@ -43,6 +43,12 @@ returns-in-Err-clause-disk g c =
     let V = g.V.Files in
     writes_more {R = LeavesScrubbed V.state V.holds c.args.v.now} c.in-Err.ensures.disk
     (λ h left leaves k stands. force_leaves k (V.state c.args.v.now).layout stands.fits.layout (g.M.Machine.now c.args.m.now) left (leaves k stands))
+
+pub returns-in-Err-clause-done : goal.returns-in-Err-clause-done
+returns-in-Err-clause-done g c = λ h k stands.
+    let V = g.V.Files in
+    let M = g.M.Machine in
+    force_fails V.state V.holds k c.force.new.self (M.now c.args.m.now) (M.now c.force.new.m) c.clear.new.self.items c.clear.ensures.items c.in-Err.why (c.in-Err.ensures.done h k stands)
 
 -- ---- what is written, kept and told
 

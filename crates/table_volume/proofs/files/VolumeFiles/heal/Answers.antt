@@ -21,8 +21,9 @@ use Rattle.volume_laws.specs.Taken.{down_fault}
 use Rattle.volume_laws.proofs.ForceEndLaws.{not_down}
 use Rattle.volume_laws.proofs.ForceLeavesLaws.{down_tells_none}
 use Rattle.volume_laws.proofs.ForceMomentLaws.{touches_none}
+use Rattle.volume_laws.proofs.WrittenLaws.{leaves_still}
 use Rattle.table_volume.proofs.DownLaws.{down_step, told_down}
-use Rattle.table_volume.proofs.HealingLaws.{all_stand, busy_heal, stands_all, still_leaves, told_follows, told_lost, told_of, told_ok, told_on, told_place, told_still, twins_leave, twins_touch}
+use Rattle.table_volume.proofs.HealingLaws.{all_stand, busy_heal, stands_all, told_follows, told_lost, told_of, told_ok, told_on, told_place, told_still, twins_leave, twins_touch}
 use Rattle.table_volume.proofs.files.VolumeFiles.heal.Goals.{in-Ok, in-Err}
 use Rattle.fsd_bytes.specs.declared.refusal.Refusal.TheVariants as Why
 use Rattle.volume_contract.specs.Order.{Follows, heal_steps}
@@ -39,7 +40,7 @@ returns-in_err-is_up g c =
     let p = err_from_is_err_and c.from_residual.result c.from_residual.ensures.1 in
     rw (p.1, p.2) (record {
       order = record { follows = inl (down_step v.down why down); idle = λ idle. refl };
-      disk = writes_told (down_tells_none v.down why down) (writes_none at (λ left h is. g.met.M.Machine.only_now at left h is) (Leaves state IsMemoryOf v (is_twin v.layout)) (λ h. still_leaves v (is_twin v.layout) now));
+      disk = writes_told (down_tells_none v.down why down) (writes_none at (λ left h is. g.met.M.Machine.only_now at left h is) (Leaves state IsMemoryOf v (is_twin v.layout)) (λ h. leaves_still v now (is_twin v.layout)));
       writes = record { rest = λ h. touches_none (is_twin v.layout) now; counted = tt };
       state = refl;
       tells = λ h. record { healed = tt; mended = tt; lost = told_down (LosesTwins v.layout now.image) (λ place. tt) v.down why down };

@@ -7,13 +7,15 @@ use Rattle.volume_layout.specs.Root.{root_bytes}
 use Rattle.volume_layout.proofs.RootLaws.{planned_bounds}
 use Rattle.sector_disk.specs.Image.{stand}
 use Rattle.sector_disk.specs.Machine.{Holds as HoldsImage, Moment}
-use Rattle.sector_disk.proofs.CallLaws.{writes_more, writes_none}
+use Rattle.sector_disk.proofs.CallLaws.{told_up, writes_more, writes_none, writes_told}
 use Rattle.fsd_bytes.specs.declared.refusal.Refusal.TheVariants as Why
 use Rattle.twin_home.specs.Heal.{RootsIn}
+use Rattle.volume_contract.specs.Ends.{device_of}
 use Rattle.volume_contract.specs.Order.{is_root, layout_is, with_three}
 use Rattle.volume_contract.specs.State.{Stands}
 use Rattle.volume_contract.specs.Upgrade.{LeavesUpgraded, upgraded_known}
 use Rattle.volume_laws.specs.State.{IsMemoryOf, state}
+use Rattle.volume_laws.proofs.ForceLeavesLaws.{down_tells_none}
 use Rattle.volume_laws.proofs.ForceMomentLaws.{touches_none}
 use Rattle.volume_laws.specs.Volume.{IsWholeVolume, VolumeValue}
 use Rattle.volume_laws.proofs.NextLaws.{up_by}
@@ -48,6 +50,14 @@ returns-in_err-is_up-clause-order g c =
     let why = c.in_err-is_up.field-0.0 in
     let p = err_from_is_err_and c.from_residual.result c.from_residual.ensures.1 in
     rw (p.1, p.2) (record { follows = inl (down_step v.down why (sym c.in_err-is_up.ensures)); idle = λ idle. refl })
+
+pub returns-in_err-is_up-clause-disk : goal.returns-in_err-is_up-clause-disk
+returns-in_err-is_up-clause-disk g c =
+    let v = c.args.self.now in
+    let at = c.args.m.now in
+    let why = c.in_err-is_up.field-0.0 in
+    writes_told (told_up device_of c.from_residual.result why c.from_residual.ensures.1 ∙ down_tells_none v.down why (sym c.in_err-is_up.ensures))
+    (writes_none at (λ left h is. g.met.M.Machine.only_now at left h is) (LeavesUpgraded state IsMemoryOf v is_root) (λ h. upgrade_still v (g.M.Machine.now at)))
 
 pub returns-in_err-is_up-clause-writes : goal.returns-in_err-is_up-clause-writes
 returns-in_err-is_up-clause-writes g c =
