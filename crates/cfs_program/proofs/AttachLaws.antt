@@ -137,12 +137,12 @@ module _ {D : Type 0} {M : Ghosts D} {path : List ℕ} {sectors : ℕ} {a b z : 
     pub found_leaves : (was : Was) → IsSoundDisk was.layout was.windows was.changes was.forced (M.now a) → IsHeld M a (λ c. IsSoundAsSaid was.layout was.windows was.changes was.forced (M.now a).image c.image) → LeavesRun M request input rest was a z status
     found_leaves was sound held =
         let first = x.finds.trust.honest back in
-        opened_run M request input rest was.layout was.windows was.changes was.forced a b z status sound (short first) (timed a first) (timed b back) held (x.finds.time back) (x.finds.found back) none_rose (found_run was sound)
+        opened_run M request input rest was.layout was.windows was.changes was.forced a b z status sound (short first) (timed a first) (timed b back) held (x.finds.time back) (x.finds.found back) (x.finds.synced back) none_rose (found_run was sound)
 
     -- it is one that mounts
     pub found_accepted : ((P : Type 0) → IfMounts request P → P) → AcceptsSound (M.now a) status
     found_accepted mounts l windows h f sound =
-        mounts _ (never_refused request input rest l windows h f (M.left_since z) (stops M z) (M.moment b) (StopsOnly M b z) (IsHeld M z) (M.report b) (M.report z) (M.now b) (M.now z) status) (found_run (record { layout = l; windows = windows; changes = h; forced = f }) sound)
+        mounts _ (never_refused request input rest l windows h f (M.left_since z) (stops M z) (M.moment b) (M.left_since b (M.now b).synced) (StopsOnly M b z) (IsHeld M z) (M.report b) (M.report z) (M.now b) (M.now z) status) (found_run (record { layout = l; windows = windows; changes = h; forced = f }) sound)
 
 -- ---- by a line
 

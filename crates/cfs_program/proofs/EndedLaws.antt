@@ -59,7 +59,7 @@ module _ {D : Type 0} (M : Ghosts D) (request : Request) (input rest : List ℕ)
   run = then_on M.moment M.left_since a b c (LeftBefore l windows h f (M.now a)) first
       (leaves_more M.moment M.left_since b c (Utters (fault_text why) (M.now b)) (LeftBefore l windows h f (M.now a)) saying (says.any_moment honest))
 
-  pub ended_behind : LeavesSaid request input rest l windows h f (M.left_since c) (stops M c) (M.moment a) (StopsOnly M a c) (IsHeld M c) (M.report a) (M.report c) (M.now a) (M.now c) status
+  pub ended_behind : LeavesSaid request input rest l windows h f (M.left_since c) (stops M c) (M.moment a) (M.left_since a (M.now a).synced) (StopsOnly M a c) (IsHeld M c) (M.report a) (M.report c) (M.now a) (M.now c) status
   ended_behind = (
     l,
     inl refl,
@@ -77,7 +77,7 @@ module _ {D : Type 0} (M : Ghosts D) (request : Request) (input rest : List ℕ)
   pub ended_run : IsTimed M a → IsTimed M c → IsHeld M a (λ c. IsSoundAsSaid l windows h f (M.now a).image c.image) → Elapses (M.moment a) (M.moment b) (M.left_since a) (M.left_since b) (Before (M.now a) (M.now b)) → Wears (M.now a) (M.now b)
       → LeavesDisk M false (is_unsaid status) (Utters (fault_text why)) b c → M.honest c → EndsWith why (M.now b) (M.now c) status
       → IsOutside request (M.report a) (M.report c) why → (M.report a).output_faults ≤ (M.report b).output_faults
-      → LeavesSaid request input rest l windows h f (M.left_since c) (stops M c) (M.moment a) (StopsOnly M a c) (IsHeld M c) (M.report a) (M.report c) (M.now a) (M.now c) status
+      → LeavesSaid request input rest l windows h f (M.left_since c) (stops M c) (M.moment a) (M.left_since a (M.now a).synced) (StopsOnly M a c) (IsHeld M c) (M.report a) (M.report c) (M.now a) (M.now c) status
   ended_run at_a at_c held time worn = ended_behind M request input rest l windows h f a b c why may status sound short at_a at_c held time.keeps first worn
     where
       before : (left : Moment) → Before (M.now a) (M.now b) left → LeftBefore l windows h f (M.now a) left

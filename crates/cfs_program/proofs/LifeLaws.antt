@@ -271,12 +271,12 @@ kept_mounted l windows next h g f made forced now planned settled sound is few s
   };
 }
 
-module _ (name : List ℕ) (byte : ℕ) (h : List Change) (old new : Moment) (k : KeepsFirst h (length h) old) (rest : List ℕ) (Past Stops : ℕ → Moment → Type 0) (began : ℕ) (Only Held : (Moment → Type 0) → Type 0) (before after_it : Report) (result : ℕ) where
+module _ (name : List ℕ) (byte : ℕ) (h : List Change) (old new : Moment) (k : KeepsFirst h (length h) old) (rest : List ℕ) (Past Stops : ℕ → Moment → Type 0) (began : ℕ) (Had : Moment → Type 0) (Only Held : (Moment → Type 0) → Type 0) (before after_it : Report) (result : ℕ) where
   abbrev more : List Change
   more = h ++ the_change name byte ∷ []
 
   abbrev Leaves : Type 0
-  Leaves = LeavesBy (the_request name byte) (byte ∷ []) rest k.layout k.windows (take k.made h) k.forced Past Stops began Only Held before after_it old new result
+  Leaves = LeavesBy (the_request name byte) (byte ∷ []) rest k.layout k.windows (take k.made h) k.forced Past Stops began Had Only Held before after_it old new result
 
   long : length more ≡ length h + 1
   long = length-append h (the_change name byte ∷ [])
@@ -341,8 +341,8 @@ module _ (name : List ℕ) (byte : ℕ) (h : List Change) (old new : Moment) (k 
       by (inl none) = kept (length h) ((λ i. found.1 i ++ none i) ∙ append-nil h ∙ sym (take_all (length h) h (omega arith)) ∙ sym (take-append-le (length h) h (the_change name byte ∷ []) (omega arith))) (omega (arith, long))
       by (inr one) = kept (length more) ((λ i. found.1 i ++ one i) ∙ sym (take_all (length more) more (omega arith))) (omega arith)
 
-module _ (h : List Change) (f : ℕ) (old new : Moment) (k : KeepsFirst h f old) (rest : List ℕ) (Past Stops : ℕ → Moment → Type 0) (began : ℕ) (Only Held : (Moment → Type 0) → Type 0) (before after_it : Report) (result : ℕ) where
-  listed_by : old.said ≡ [] → result ≡ 0 → LeavesBy (Asks.One all_versions) [] rest k.layout k.windows (take k.made h) k.forced Past Stops began Only Held before after_it old new result → ListsPrefix h f new.said
+module _ (h : List Change) (f : ℕ) (old new : Moment) (k : KeepsFirst h f old) (rest : List ℕ) (Past Stops : ℕ → Moment → Type 0) (began : ℕ) (Had : Moment → Type 0) (Only Held : (Moment → Type 0) → Type 0) (before after_it : Report) (result : ℕ) where
+  listed_by : old.said ≡ [] → result ≡ 0 → LeavesBy (Asks.One all_versions) [] rest k.layout k.windows (take k.made h) k.forced Past Stops began Had Only Held before after_it old new result → ListsPrefix h f new.said
   listed_by unsaid nought (inl u) = absurd (by u.ends)
     where
       by : IsSpent old new result ⊎ (IsUnsaid before after_it result ⊎ IsBrokenOff (Asks.One all_versions) Unbegun Whatever before after_it (blank ∷ []) old new result) → ⊥
@@ -380,16 +380,16 @@ kept_by h f now k layout said = record {
   sound = said_disk k.layout layout k.windows (take k.made h) k.forced now said k.sound;
 }
 
-module _ (name : List ℕ) (byte : ℕ) (h : List Change) (old new : Moment) (k : KeepsFirst h (length h) old) (rest : List ℕ) (Past Stops : ℕ → Moment → Type 0) (began : ℕ) (Only Held : (Moment → Type 0) → Type 0) (before after_it : Report) (result : ℕ) where
+module _ (name : List ℕ) (byte : ℕ) (h : List Change) (old new : Moment) (k : KeepsFirst h (length h) old) (rest : List ℕ) (Past Stops : ℕ → Moment → Type 0) (began : ℕ) (Had : Moment → Type 0) (Only Held : (Moment → Type 0) → Type 0) (before after_it : Report) (result : ℕ) where
   abbrev LeavesPut : Type 0
-  LeavesPut = LeavesSaid (the_request name byte) (byte ∷ []) rest k.layout k.windows (take k.made h) k.forced Past Stops began Only Held before after_it old new result
+  LeavesPut = LeavesSaid (the_request name byte) (byte ∷ []) rest k.layout k.windows (take k.made h) k.forced Past Stops began Had Only Held before after_it old new result
 
   pub kept_done : result ≡ 0 → LeavesPut → KeepsFirst (h ++ the_change name byte ∷ []) (length h + 1) new
-  kept_done nought (layout, said, leaves) = done_by name byte h old new (kept_by h (length h) old k layout said) rest Past Stops began Only Held before after_it result nought leaves
+  kept_done nought (layout, said, leaves) = done_by name byte h old new (kept_by h (length h) old k layout said) rest Past Stops began Had Only Held before after_it result nought leaves
 
   pub kept_left : LeavesPut → KeepsFirst (h ++ the_change name byte ∷ []) (length h) new
-  kept_left (layout, said, leaves) = left_by name byte h old new (kept_by h (length h) old k layout said) rest Past Stops began Only Held before after_it result leaves
+  kept_left (layout, said, leaves) = left_by name byte h old new (kept_by h (length h) old k layout said) rest Past Stops began Had Only Held before after_it result leaves
 
-module _ (h : List Change) (f : ℕ) (old new : Moment) (k : KeepsFirst h f old) (rest : List ℕ) (Past Stops : ℕ → Moment → Type 0) (began : ℕ) (Only Held : (Moment → Type 0) → Type 0) (before after_it : Report) (result : ℕ) where
-  pub kept_listed : old.said ≡ [] → result ≡ 0 → LeavesSaid (Asks.One all_versions) [] rest k.layout k.windows (take k.made h) k.forced Past Stops began Only Held before after_it old new result → ListsPrefix h f new.said
-  kept_listed unsaid nought (layout, said, leaves) = listed_by h f old new (kept_by h f old k layout said) rest Past Stops began Only Held before after_it result unsaid nought leaves
+module _ (h : List Change) (f : ℕ) (old new : Moment) (k : KeepsFirst h f old) (rest : List ℕ) (Past Stops : ℕ → Moment → Type 0) (began : ℕ) (Had : Moment → Type 0) (Only Held : (Moment → Type 0) → Type 0) (before after_it : Report) (result : ℕ) where
+  pub kept_listed : old.said ≡ [] → result ≡ 0 → LeavesSaid (Asks.One all_versions) [] rest k.layout k.windows (take k.made h) k.forced Past Stops began Had Only Held before after_it old new result → ListsPrefix h f new.said
+  kept_listed unsaid nought (layout, said, leaves) = listed_by h f old new (kept_by h f old k layout said) rest Past Stops began Had Only Held before after_it result unsaid nought leaves

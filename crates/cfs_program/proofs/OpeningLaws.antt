@@ -8,16 +8,16 @@ use Rattle.sector_disk.specs.declared.machine.Machine.{Ghosts}
 use Rattle.sector_disk.specs.declared.sector.WeakRun.{WeakRun}
 use Rattle.sector_disk.specs.Calls.{IsHeld, IsTimed, Since, StopsOnly, stops}
 use Rattle.sector_disk.specs.Image.{AreShort, IsWorn, Windows, open_damage}
-use Rattle.sector_disk.specs.Machine.{Before, Elapses, Finds, LeavesOnly, Moment, Report, Rose, Wears}
+use Rattle.sector_disk.specs.Machine.{Before, Elapses, Finds, IsSynced, LeavesOnly, Moment, Report, Rose, Wears}
 use Rattle.sector_disk.proofs.Lags.{shows_of, stops_by}
 use Rattle.sector_disk.proofs.Moments.{goes_on, leaves_more, started, then_on}
 use Rattle.sector_disk.proofs.Wear.{worn_trans}
 use Rattle.fsd_files.specs.Files.{Change}
 use Rattle.fsd_files.specs.Disk.{Image, Sectors, in_runs}
-use Rattle.fsd_sound.specs.Sound.{IsSaid, IsSound, weak_of}
+use Rattle.fsd_sound.specs.Sound.{EachSaid, IsSaid, IsSound, Says, SaysNoMore, weak_of}
 use Rattle.fsd_sound.proofs.WindowLaws.{named_from}
 use Rattle.fsd_sound.proofs.MoreLaws.{wear_sound}
-use Rattle.fsd_sound.proofs.SaidLaws.{planned_beside, says_worn}
+use Rattle.fsd_sound.proofs.SaidLaws.{planned_beside, says_worn, worn_says}
 use Rattle.fsd_sound.proofs.BesideLaws.{said_sound}
 use Rattle.fsd_sound.proofs.WindowLaws.{open_is_weak}
 use Rattle.fsd_texts.specs.declared.fault.Fault.{Fault}
@@ -26,12 +26,13 @@ use Rattle.fsd_texts.specs.Text.{fault_text}
 use Rattle.fsd_runs.specs.declared.request.Request.{Request}
 use Rattle.fsd_runs.specs.declared.request.Request.TheVariants.{Put, Restore}
 use Rattle.fsd_runs.specs.Errands.{ByFault, Cut, Turn}
-use Rattle.fsd_runs.specs.Leaves.{CutCause, IsBrokenOff, IsOutside, IsReplied, IsSoundAsSaid, IsSpent, IsUnderWay, IsUndone, IsUnsaid, LeavesBy, LeavesMounted, LeavesRoots, LeavesSaid, LeavesUnmounted, Left, LeftBefore, LeftByTurns, SaysFault}
+use Rattle.fsd_runs.specs.Leaves.{CutCause, IsBrokenOff, IsOutside, IsReplied, IsRooted, IsSoundAsSaid, IsSpent, IsUnderWay, IsUndone, IsUnsaid, LeavesBy, LeavesMounted, LeavesRoots, LeavesSaid, LeavesUnmounted, Left, LeftBefore, LeftByTurns, SaysFault, WasSaid}
 use Rattle.fsd_runs.proofs.LeaveLaws.{one_more}
 use Rattle.fsd_runs.specs.Sessions.{session_over}
 use Rattle.fsd_runs.specs.Runs.{Goes, GoesSo, IsCutAt, IsThrough, Course, answered, errand_in, run_end, run_status, run_turns, said_in}
 use Rattle.volume_contract.specs.Mount.{IsSoundAt}
 use Rattle.volume_turns.specs.Status.{CountsNone}
+use Rattle.volume_turns.proofs.RootedLaws.{leaves_roots}
 use Rattle.cfs_program.specs.Opening.{IsSoundDisk}
 use Rattle.cfs_program.proofs.AnchorLaws.{last_before}
 
@@ -109,9 +110,9 @@ module _ (l : Layout) (windows : List WeakRun) (h : List Change) (f : ℕ) (old 
     left_on run n turns left (inl x) = inl (before_on left x)
     left_on run n turns left (inr x) = inr (since_on run n turns left x)
 
-    roots_on : (own : Layout) (weak : Sectors) (left : Moment) → LeavesRoots own weak at left → LeavesRoots own weak old left
-    roots_on own weak left (inl (part, fault, said)) = inl (part, fault, said ∙ ap (λ (s : List ℕ). s ++ part) found.said)
-    roots_on own weak left (inr roots) = inr roots
+    rooted_on : (own : Layout) (weak : Sectors) (left : Moment) → IsRooted own weak at left → IsRooted own weak old left
+    rooted_on own weak left (inl (part, fault, said)) = inl (part, fault, said ∙ ap (λ (s : List ℕ). s ++ part) found.said)
+    rooted_on own weak left (inr roots) = inr roots
 
     -- the disk that the mount finds
     pub sound_found : (count : ℕ) → count ≡ min (length at.image) (2 ^ 32 - 1) → IsSoundAt count l windows h f at
@@ -171,11 +172,43 @@ module _ {D : Type 0} (M : Ghosts D) (l : Layout) (windows : List WeakRun) (h : 
       left_shown : (last shown : Moment) → LeftBefore l windows h f old last → IsSound l windows h f shown.image → LeftBefore l windows h f old (shows_of shown last)
       left_shown last shown x sound = record { present = x.present; part = x.part; said = x.said; fault = x.fault; sound = sound }
 
+-- ---- what the roots say
+
+-- the image is found with no other root
+before_says : (old at left : Moment) → Keeps old at → Before old at left → SaysNoMore old.image left.image
+before_says old at left keeps (inl wears) = worn_says (open_damage old.windows) old.image left.image wears.image
+before_says old at left keeps (inr is) = subst (λ (m : Moment). SaysNoMore old.image m.image) (sym is) (worn_says (open_damage old.windows) old.image at.image keeps.image)
+
+module _ {D : Type 0} (M : Ghosts D) (own : Layout) (weak : Sectors) (a b c : D) (at_a : IsTimed M a) (at_b : IsTimed M b) (synced : IsSynced (M.now b))
+    (time : Elapses (M.moment a) (M.moment b) (M.left_since a) (M.left_since b) (Before (M.now a) (M.now b))) (found : Keeps (M.now a) (M.now b)) where
+  abbrev Had : Moment → Type 0
+  Had = M.left_since a (M.now a).synced
+
+  found_says : LeavesOnly M.moment M.left_since a b (λ x. SaysNoMore (M.now a).image x.image)
+  found_says = goes_on M.moment M.left_since a a b (λ x. SaysNoMore (M.now a).image x.image) (Before (M.now a) (M.now b)) (started M.moment M.left_since a (M.now a) (λ x. SaysNoMore (M.now a).image x.image) at_a.only (λ k says. says)) time
+      (λ left before. before_says (M.now a) (M.now b) left found before)
+
+  pub roots_ahead : StopsOnly M a b (IsRooted own weak (M.now a)) → StopsOnly M a b (LeavesRoots own weak Had (M.now a))
+  roots_ahead rooted = leaves_roots M own a b at_a at_b time.keeps weak (leaves_more M.moment M.left_since a b (λ x. SaysNoMore (M.now a).image x.image) (λ x. EachSaid x.image (λ l. (l ≡ own) ⊎ Says l (M.now a).image)) (λ x less l planned says. inr (less l says)) found_says) rooted
+
+  -- what is on the disk behind an attach is all that there is
+  was_found : (l : Layout) → WasSaid (M.left_since b (M.now b).synced) l → WasSaid Had l
+  was_found l (x, had, says) =
+      let is : x ≡ M.now b = at_b.only x (subst (λ (t : ℕ). M.left_since b t x) (synced ∙ at_b.dated) had) in
+      let early = at_a.history.synced (M.moment a) (M.now a) at_a.here in
+      let dated = at_a.dated in
+      (M.now a, at_a.history.sooner (M.now a).synced (M.moment a) (M.now a) (omega (arith, early, dated)) at_a.here, worn_says (open_damage (M.now a).windows) (M.now a).image (M.now b).image found.image l (subst (λ (m : Moment). Says l m.image) is says))
+
+  pub roots_behind : ((left : Moment) → IsRooted own weak (M.now b) left → IsRooted own weak (M.now a) left) → StopsOnly M b c (LeavesRoots own weak (M.left_since b (M.now b).synced) (M.now b)) → StopsOnly M b c (LeavesRoots own weak Had (M.now a))
+  roots_behind on run = leaves_more M.moment (stops M) b c (LeavesRoots own weak (M.left_since b (M.now b).synced) (M.now b)) (LeavesRoots own weak Had (M.now a))
+      (λ left x. record { says = λ l planned there. ⊎_elim (λ same. inl same) (λ was. inr (was_found l was)) (x.says l planned there); replied = on left x.replied }) run
+
 -- ---- the whole
 
 module _ {D : Type 0} (M : Ghosts D) (request : Request) (input rest : List ℕ) (l : Layout) (windows : List WeakRun) (h : List Change) (f : ℕ) (a b c : D) (status : ℕ)
     (sound : IsSoundDisk l windows h f (M.now a)) (short : AreShort (M.now a).windows)
-    (ahead : StopsOnly M a b (LeftBefore l windows h f (M.now a))) (found : Keeps (M.now a) (M.now b)) (same : CountsNone (M.report a) (M.report b)) where
+    (ahead : StopsOnly M a b (LeftBefore l windows h f (M.now a))) (found : Keeps (M.now a) (M.now b)) (same : CountsNone (M.report a) (M.report b))
+    (at_a : IsTimed M a) (at_b : IsTimed M b) (synced : IsSynced (M.now b)) (time : Elapses (M.moment a) (M.moment b) (M.left_since a) (M.left_since b) (Before (M.now a) (M.now b))) where
   opened_unmounted : LeavesUnmounted request l windows h f (StopsOnly M b c) (IsHeld M c) (M.report b) (M.report c) (M.now b) (M.now c) status
       → LeavesUnmounted request l windows h f (StopsOnly M a c) (IsHeld M c) (M.report a) (M.report c) (M.now a) (M.now c) status
   opened_unmounted u = record {
@@ -186,7 +219,7 @@ module _ {D : Type 0} (M : Ghosts D) (request : Request) (input rest : List ℕ)
     ends = spent_or l windows h f (M.now a) sound short (M.now b) found request (M.report a) (M.report b) (M.report c) same (M.now c) status _ u.ends;
   }
 
-  module _ (m : LeavesMounted request input rest l windows h f (M.left_since c) (stops M c) (M.moment b) (StopsOnly M b c) (IsHeld M c) (M.report b) (M.report c) (M.now b) (M.now c) status) where
+  module _ (m : LeavesMounted request input rest l windows h f (M.left_since c) (stops M c) (M.moment b) (M.left_since b (M.now b).synced) (StopsOnly M b c) (IsHeld M c) (M.report b) (M.report c) (M.now b) (M.now c) status) where
     abbrev turns : List Turn
     turns = run_turns m.run
 
@@ -208,16 +241,19 @@ module _ {D : Type 0} (M : Ghosts D) (request : Request) (input rest : List ℕ)
     ends_on (inl (through, replied)) = inl (through, replied_on replied)
     ends_on (inr failed) = inr (failed_on l windows h f (M.now a) sound short (M.now b) found request (M.report a) (M.report b) (M.report c) same (M.now c) status turns failed)
 
-    -- what is said, and where both roots stand
-    abbrev Rooted : Moment → Moment → Type 0
-    Rooted old left = LeavesRoots (run_end m.run).layout (weak_of (windows ++ m.next ∷ [])) old left
+    -- what is said, and what the roots say
+    abbrev own : Layout
+    own = (run_end m.run).layout
 
-    rooted_on : StopsOnly M b c (Rooted (M.now b)) → StopsOnly M a c (Rooted (M.now a))
-    rooted_on run = then_on M.moment (stops M) a b c (Rooted (M.now a))
-        (leaves_more M.moment (stops M) a b (LeftBefore l windows h f (M.now a)) (Rooted (M.now a)) (λ left x. inl (x.part, x.fault, x.said)) ahead)
-        (leaves_more M.moment (stops M) b c (Rooted (M.now b)) (Rooted (M.now a)) (roots_on l windows h f (M.now a) sound short (M.now b) found (run_end m.run).layout (weak_of (windows ++ m.next ∷ []))) run)
+    abbrev weak : Sectors
+    weak = weak_of (windows ++ m.next ∷ [])
 
-    opened_mounted : LeavesMounted request input rest l windows h f (M.left_since c) (stops M c) (M.moment a) (StopsOnly M a c) (IsHeld M c) (M.report a) (M.report c) (M.now a) (M.now c) status
+    roots_on : StopsOnly M b c (LeavesRoots own weak (M.left_since b (M.now b).synced) (M.now b)) → StopsOnly M a c (LeavesRoots own weak (M.left_since a (M.now a).synced) (M.now a))
+    roots_on run = then_on M.moment (stops M) a b c (LeavesRoots own weak (M.left_since a (M.now a).synced) (M.now a))
+        (roots_ahead M own weak a b c at_a at_b synced time found (leaves_more M.moment (stops M) a b (LeftBefore l windows h f (M.now a)) (IsRooted own weak (M.now a)) (λ left x. inl (x.part, x.fault, x.said)) ahead))
+        (roots_behind M own weak a b c at_a at_b synced time found (rooted_on l windows h f (M.now a) sound short (M.now b) found own weak) run)
+
+    opened_mounted : LeavesMounted request input rest l windows h f (M.left_since c) (stops M c) (M.moment a) (M.left_since a (M.now a).synced) (StopsOnly M a c) (IsHeld M c) (M.report a) (M.report c) (M.now a) (M.now c) status
     opened_mounted = record {
       count = m.count;
       prefix = m.prefix;
@@ -237,27 +273,27 @@ module _ {D : Type 0} (M : Ghosts D) (request : Request) (input rest : List ℕ)
           (leaves_more M.moment (stops M) a b (LeftBefore l windows h f (M.now a)) (Left l windows m.next h f m.count turns (M.now a)) (λ left x. inl x) ahead)
           (leaves_more M.moment (stops M) b c (Left l windows m.next h f m.count turns (M.now b)) (Left l windows m.next h f m.count turns (M.now a)) (left_on l windows h f (M.now a) sound short (M.now b) found m.next m.count turns) m.moments);
       later = λ left was. since_on l windows h f (M.now a) sound short (M.now b) found m.next m.count turns left (m.later left was);
-      rooted = one_more request rooted_on m.rooted;
+      rooted = one_more request roots_on m.rooted;
       exit = since_on l windows h f (M.now a) sound short (M.now b) found m.next m.count turns (M.now c) m.exit;
       ends = ends_on m.ends;
     }
 
-  found_by : LeavesBy request input rest l windows h f (M.left_since c) (stops M c) (M.moment b) (StopsOnly M b c) (IsHeld M c) (M.report b) (M.report c) (M.now b) (M.now c) status
-      → LeavesBy request input rest l windows h f (M.left_since c) (stops M c) (M.moment a) (StopsOnly M a c) (IsHeld M c) (M.report a) (M.report c) (M.now a) (M.now c) status
+  found_by : LeavesBy request input rest l windows h f (M.left_since c) (stops M c) (M.moment b) (M.left_since b (M.now b).synced) (StopsOnly M b c) (IsHeld M c) (M.report b) (M.report c) (M.now b) (M.now c) status
+      → LeavesBy request input rest l windows h f (M.left_since c) (stops M c) (M.moment a) (M.left_since a (M.now a).synced) (StopsOnly M a c) (IsHeld M c) (M.report a) (M.report c) (M.now a) (M.now c) status
   found_by (inl u) = inl (opened_unmounted u)
   found_by (inr m) = inr (opened_mounted m)
 
 module _ {D : Type 0} (M : Ghosts D) (request : Request) (input rest : List ℕ) (l : Layout) (windows : List WeakRun) (h : List Change) (f : ℕ) (a b c : D) (status : ℕ)
     (sound : IsSoundDisk l windows h f (M.now a)) (short : AreShort (M.now a).windows) (at_a : IsTimed M a) (at_b : IsTimed M b) (held : IsHeld M a (λ c. IsSound l windows h f c.image))
-    (time : Elapses (M.moment a) (M.moment b) (M.left_since a) (M.left_since b) (Before (M.now a) (M.now b))) (found : Finds (M.now a) (M.now b)) (same : CountsNone (M.report a) (M.report b)) where
-  opened_by : LeavesBy request input rest l windows h f (M.left_since c) (stops M c) (M.moment b) (StopsOnly M b c) (IsHeld M c) (M.report b) (M.report c) (M.now b) (M.now c) status
-      → LeavesBy request input rest l windows h f (M.left_since c) (stops M c) (M.moment a) (StopsOnly M a c) (IsHeld M c) (M.report a) (M.report c) (M.now a) (M.now c) status
+    (time : Elapses (M.moment a) (M.moment b) (M.left_since a) (M.left_since b) (Before (M.now a) (M.now b))) (found : Finds (M.now a) (M.now b)) (synced : IsSynced (M.now b)) (same : CountsNone (M.report a) (M.report b)) where
+  opened_by : LeavesBy request input rest l windows h f (M.left_since c) (stops M c) (M.moment b) (M.left_since b (M.now b).synced) (StopsOnly M b c) (IsHeld M c) (M.report b) (M.report c) (M.now b) (M.now c) status
+      → LeavesBy request input rest l windows h f (M.left_since c) (stops M c) (M.moment a) (M.left_since a (M.now a).synced) (StopsOnly M a c) (IsHeld M c) (M.report a) (M.report c) (M.now a) (M.now c) status
   opened_by =
       let keeps = finds_keep (M.now a) (M.now b) found in
       found_by M request input rest l windows h f a b c status sound short
       (stops_before M l windows h f (M.now a) a b at_a at_b time.keeps
       (goes_on M.moment M.left_since a a b (LeftBefore l windows h f (M.now a)) (Before (M.now a) (M.now b))
-      (started M.moment M.left_since a (M.now a) (LeftBefore l windows h f (M.now a)) at_a.only (left_start l windows h f (M.now a) sound short)) time (left_attach l windows h f (M.now a) sound short (M.now b) keeps)) held) keeps same
+      (started M.moment M.left_since a (M.now a) (LeftBefore l windows h f (M.now a)) at_a.only (left_start l windows h f (M.now a) sound short)) time (left_attach l windows h f (M.now a) sound short (M.now b) keeps)) held) keeps same at_a at_b synced time
 
 -- ---- by the layout that a root says
 
@@ -273,9 +309,9 @@ said_disk l layout windows h f now (inr is) sound =
 module _ {D : Type 0} (M : Ghosts D) (request : Request) (input rest : List ℕ) (l : Layout) (windows : List WeakRun) (h : List Change) (f : ℕ) (a b c : D) (status : ℕ)
     (sound : IsSoundDisk l windows h f (M.now a)) (short : AreShort (M.now a).windows) where
   -- behind an attach
-  pub opened_run : IsTimed M a → IsTimed M b → IsHeld M a (λ c. IsSoundAsSaid l windows h f (M.now a).image c.image) → Elapses (M.moment a) (M.moment b) (M.left_since a) (M.left_since b) (Before (M.now a) (M.now b)) → Finds (M.now a) (M.now b) → CountsNone (M.report a) (M.report b)
-      → LeavesSaid request input rest l windows h f (M.left_since c) (stops M c) (M.moment b) (StopsOnly M b c) (IsHeld M c) (M.report b) (M.report c) (M.now b) (M.now c) status
-      → LeavesSaid request input rest l windows h f (M.left_since c) (stops M c) (M.moment a) (StopsOnly M a c) (IsHeld M c) (M.report a) (M.report c) (M.now a) (M.now c) status
-  opened_run at_a at_b held time found same (layout, says, leaves) =
+  pub opened_run : IsTimed M a → IsTimed M b → IsHeld M a (λ c. IsSoundAsSaid l windows h f (M.now a).image c.image) → Elapses (M.moment a) (M.moment b) (M.left_since a) (M.left_since b) (Before (M.now a) (M.now b)) → Finds (M.now a) (M.now b) → IsSynced (M.now b) → CountsNone (M.report a) (M.report b)
+      → LeavesSaid request input rest l windows h f (M.left_since c) (stops M c) (M.moment b) (M.left_since b (M.now b).synced) (StopsOnly M b c) (IsHeld M c) (M.report b) (M.report c) (M.now b) (M.now c) status
+      → LeavesSaid request input rest l windows h f (M.left_since c) (stops M c) (M.moment a) (M.left_since a (M.now a).synced) (StopsOnly M a c) (IsHeld M c) (M.report a) (M.report c) (M.now a) (M.now c) status
+  opened_run at_a at_b held time found synced same (layout, says, leaves) =
       let said = said_before l layout (M.now a) (M.now b) (finds_keep (M.now a) (M.now b) found) says in
-      (layout, said, opened_by M request input rest layout windows h f a b c status (said_disk l layout windows h f (M.now a) said sound) short at_a at_b (λ c left. held c left layout said) time found same leaves)
+      (layout, said, opened_by M request input rest layout windows h f a b c status (said_disk l layout windows h f (M.now a) said sound) short at_a at_b (λ c left. held c left layout said) time found synced same leaves)

@@ -124,7 +124,7 @@ broken_otherwise request Undone UnderWay before after turns old new result (inr 
     by Asks.Restore Ends.Input outside e = absurd (omega (arith, e))
     by r why outside e = absurd outside
 
-module _ (request : Request) (input rest : List ℕ) (l : Layout) (windows : List WeakRun) (h : List Change) (f : ℕ) (Past Stops : ℕ → Moment → Type 0) (began : ℕ) (Only Held : (Moment → Type 0) → Type 0) (before after : Report) (old new : Moment) (result : ℕ) where
+module _ (request : Request) (input rest : List ℕ) (l : Layout) (windows : List WeakRun) (h : List Change) (f : ℕ) (Past Stops : ℕ → Moment → Type 0) (began : ℕ) (Had : Moment → Type 0) (Only Held : (Moment → Type 0) → Type 0) (before after : Report) (old new : Moment) (result : ℕ) where
   unmounted_otherwise : LeavesUnmounted request l windows h f Only Held before after old new result → NotThree result
   unmounted_otherwise u e = by u.ends
     where
@@ -132,7 +132,7 @@ module _ (request : Request) (input rest : List ℕ) (l : Layout) (windows : Lis
       by (inl spent) = let nine = spent.ends in omega (arith, e, nine)
       by (inr other) = broken_otherwise request Unbegun Whatever before after (blank ∷ []) old new result other e
 
-  mounted_otherwise : AllEndOtherwise (errand_of request input) → LeavesMounted request input rest l windows h f Past Stops began Only Held before after old new result → NotThree result
+  mounted_otherwise : AllEndOtherwise (errand_of request input) → LeavesMounted request input rest l windows h f Past Stops began Had Only Held before after old new result → NotThree result
   mounted_otherwise otherwise m e = by m.ends
     where
       by : (IsThrough m.run × IsReplied l windows m.next h m.count (run_turns m.run) (run_status m.run) (run_end m.run) Held old new result)
@@ -140,13 +140,13 @@ module _ (request : Request) (input rest : List ℕ) (l : Layout) (windows : Lis
       by (inl through) = in_otherwise request input m.run.cut m.run.may otherwise m.volume (answered m.run.mets (session_over m.volume) (errand_in request input m.run.cut m.volume).commands) (sym through.1.ends ∙ e)
       by (inr other) = broken_otherwise request (IsUndone l (windows ++ m.next ∷ []) (take m.count h) m.count (run_turns m.run)) (IsUnderWay l (windows ++ m.next ∷ []) (take m.count h) m.count (run_turns m.run) Held) before after (run_turns m.run) old new result other e
 
-  by_otherwise : AllEndOtherwise (errand_of request input) → LeavesBy request input rest l windows h f Past Stops began Only Held before after old new result → NotThree result
+  by_otherwise : AllEndOtherwise (errand_of request input) → LeavesBy request input rest l windows h f Past Stops began Had Only Held before after old new result → NotThree result
   by_otherwise otherwise (inl u) = unmounted_otherwise u
   by_otherwise otherwise (inr m) = mounted_otherwise otherwise m
 
-module _ (request : Request) (input rest : List ℕ) (l : Layout) (windows : List WeakRun) (h : List Change) (f : ℕ) (Past Stops : ℕ → Moment → Type 0) (began : ℕ) (Only Held : (Moment → Type 0) → Type 0) (before after : Report) (old new : Moment) (result : ℕ) where
-  run_otherwise : AllEndOtherwise (errand_of request input) → LeavesSaid request input rest l windows h f Past Stops began Only Held before after old new result → NotThree result
-  run_otherwise otherwise leaves = by_otherwise request input rest leaves.0 windows h f Past Stops began Only Held before after old new result otherwise leaves.2
+module _ (request : Request) (input rest : List ℕ) (l : Layout) (windows : List WeakRun) (h : List Change) (f : ℕ) (Past Stops : ℕ → Moment → Type 0) (began : ℕ) (Had : Moment → Type 0) (Only Held : (Moment → Type 0) → Type 0) (before after : Report) (old new : Moment) (result : ℕ) where
+  run_otherwise : AllEndOtherwise (errand_of request input) → LeavesSaid request input rest l windows h f Past Stops began Had Only Held before after old new result → NotThree result
+  run_otherwise otherwise leaves = by_otherwise request input rest leaves.0 windows h f Past Stops began Had Only Held before after old new result otherwise leaves.2
 
-  pub never_refused : IfMounts request (LeavesSaid request input rest l windows h f Past Stops began Only Held before after old new result → result ≡ 3 → ⊥)
-  never_refused = if_mounts request (AllEndOtherwise (errand_of request input)) (LeavesSaid request input rest l windows h f Past Stops began Only Held before after old new result → NotThree result) run_otherwise (errand_otherwise request input)
+  pub never_refused : IfMounts request (LeavesSaid request input rest l windows h f Past Stops began Had Only Held before after old new result → result ≡ 3 → ⊥)
+  never_refused = if_mounts request (AllEndOtherwise (errand_of request input)) (LeavesSaid request input rest l windows h f Past Stops began Had Only Held before after old new result → NotThree result) run_otherwise (errand_otherwise request input)

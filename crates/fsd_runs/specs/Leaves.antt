@@ -17,7 +17,7 @@ use Rattle.fsd_sound.specs.Laid.{HasOwnRoots}
 use Rattle.fsd_sound.specs.Mounted.{telling_of}
 use Rattle.fsd_sound.specs.Mounting.{last_epoch}
 use Rattle.fsd_sound.specs.Shown.{told}
-use Rattle.fsd_sound.specs.Sound.{IsPrefixOf, IsSaid, IsSound, Says, weak_of}
+use Rattle.fsd_sound.specs.Sound.{EachSaid, IsPrefixOf, IsSaid, IsSound, Says, weak_of}
 use Rattle.fsd_sound.specs.Windows.{IsNamedSince}
 use Rattle.fsd_texts.specs.declared.fault.Fault.{Fault}
 use Rattle.fsd_texts.specs.declared.fault.Fault.TheVariants as Ends
@@ -77,11 +77,19 @@ pub record LeftByTurns (l : Layout) (windows : List WeakRun) (run : WeakRun) (h 
   pub enough : forced_in (take whole turns) ≤ forced
   pub sound : IsSound l (windows ++ run ∷ []) (take n h ++ changes_in (take (suc whole) turns)) (n + forced) left.image
 
--- Of one command by itself: each layout that a root says is this one, or was said by one before. Nothing is said but some
--- first bytes of a fault's line, or none; or both roots are those of this layout.
-pub record LeavesRoots (own : Layout) (weak : Sectors) (old left : Moment) : Type 0 where
-  pub says : (l : Layout) → Says l left.image → (l ≡ own) ⊎ Says l old.image
-  pub replied : ((part : List ℕ) × SaysFault part × (left.said ≡ old.said ++ part)) ⊎ HasOwnRoots own weak left.image
+-- nothing is said but some first bytes of a fault's line, or none; or both roots are those of this layout
+abbrev pub IsRooted : Layout → Sectors → (old left : Moment) → Type 0
+IsRooted own weak old left = ((part : List ℕ) × SaysFault part × (left.said ≡ old.said ++ part)) ⊎ HasOwnRoots own weak left.image
+
+-- a root says it at one of these moments
+abbrev pub WasSaid : (Had : Moment → Type 0) → Layout → Type 0
+WasSaid Had l = (c : Moment) × Had c × Says l c.image
+
+-- Of one command by itself: each layout that a root says is this one, or was said as the run began; and no byte of its reply
+-- is said before both roots are those of this one.
+pub record LeavesRoots (own : Layout) (weak : Sectors) (Had : Moment → Type 0) (old left : Moment) : Type 0 where
+  pub says : EachSaid left.image (λ l. (l ≡ own) ⊎ WasSaid Had l)
+  pub replied : IsRooted own weak old left
 
 -- where the words ask for one command by itself, which takes no input
 abbrev pub IfOne : Request → Type 0 → Type 0
@@ -230,12 +238,12 @@ pub record RaisesEpoch (windows : List WeakRun) (old from : Image) : Type 0 wher
 -- The mount settled at some time: it found the first n changes, every forced one among them, and the run went on from
 -- the image as it settled, in which both roots were its layout's. The window that it settled is next: it was named since
 -- the run began, and is the present one at each moment from then on and at the end. What a stop leaves is what is said
--- above; from that time on it is of the second kind. Where one command by itself has begun to say its reply, both roots are
--- those of the layout behind it, another one behind an upgrade or a growth. The images of the run are of its moments, as
--- reads show them.
+-- above; from that time on it is of the second kind. Of one command by itself no root says another layout than the one behind
+-- it, or those that were said as it began; and where it has begun to say its reply, both roots are those of the one behind
+-- it, another one behind an upgrade or a growth. The images of the run are of its moments, as reads show them.
 -- Either all commands were begun, all is said and all changes are forced; or a fault from outside has ended the run at once;
 -- or the output failed. Held is what each moment since the last sync has.
-pub record LeavesMounted (request : Request) (input rest : List ℕ) (l : Layout) (windows : List WeakRun) (h : List Change) (f : ℕ) (Past Stops : ℕ → Moment → Type 0) (began : ℕ) (Only Held : (Moment → Type 0) → Type 0) (before after : Report) (old new : Moment) (result : ℕ) : Type 0 where
+pub record LeavesMounted (request : Request) (input rest : List ℕ) (l : Layout) (windows : List WeakRun) (h : List Change) (f : ℕ) (Past Stops : ℕ → Moment → Type 0) (began : ℕ) (Had : Moment → Type 0) (Only Held : (Moment → Type 0) → Type 0) (before after : Report) (old new : Moment) (result : ℕ) : Type 0 where
   pub count : ℕ
   pub prefix : IsPrefixOf h f count
   pub next : WeakRun
@@ -252,7 +260,7 @@ pub record LeavesMounted (request : Request) (input rest : List ℕ) (l : Layout
   pub cause : CutCause run.cut input rest before after
   pub moments : Only (Left l windows next h f count (run_turns run) old)
   pub later : (left : Moment) → Stops at left → LeftByTurns l windows next h count (run_turns run) old left
-  pub rooted : IfOne request (Only (LeavesRoots (run_end run).layout (weak_of (windows ++ next ∷ [])) old))
+  pub rooted : IfOne request (Only (LeavesRoots (run_end run).layout (weak_of (windows ++ next ∷ [])) Had old))
   pub exit : LeftByTurns l windows next h count (run_turns run) old new
   pub ends : (IsThrough run × IsReplied l windows next h count (run_turns run) (run_status run) (run_end run) Held old new result) ⊎ (IsUnsaid before after result ⊎ IsBrokenOff request (IsUndone l (windows ++ next ∷ []) (take count h) count (run_turns run)) (IsUnderWay l (windows ++ next ∷ []) (take count h) count (run_turns run) Held) before after (run_turns run) old new result)
 
@@ -261,16 +269,16 @@ abbrev pub IsSoundAsSaid : Layout → List WeakRun → List Change → ℕ → (
 IsSoundAsSaid l windows h f read i = (layout : Layout) → IsSaid l read layout → IsSound layout windows h f i
 
 -- A run over an image that is sound by this layout. The input is as it was, and rest what is left of it.
--- Past is what there was from a time on, Stops what a stop from a time on may have left, and began the time at which the
--- run began; Held is what each moment since the last sync has at the end.
-abbrev pub LeavesBy : Request → (input rest : List ℕ) → Layout → List WeakRun → List Change → ℕ → (Past Stops : ℕ → Moment → Type 0) → (began : ℕ) → (Only Held : (Moment → Type 0) → Type 0) → (before after : Report) → (old new : Moment) → (result : ℕ) → Type 0
-LeavesBy request input rest l windows h f Past Stops began Only Held before after old new result =
-    LeavesUnmounted request l windows h f Only Held before after old new result ⊎ LeavesMounted request input rest l windows h f Past Stops began Only Held before after old new result
+-- Past is what there was from a time on, Stops what a stop from a time on may have left, began the time at which the run
+-- began, and Had the moments since the last sync then; Held is what each moment since the last sync has at the end.
+abbrev pub LeavesBy : Request → (input rest : List ℕ) → Layout → List WeakRun → List Change → ℕ → (Past Stops : ℕ → Moment → Type 0) → (began : ℕ) → (Had : Moment → Type 0) → (Only Held : (Moment → Type 0) → Type 0) → (before after : Report) → (old new : Moment) → (result : ℕ) → Type 0
+LeavesBy request input rest l windows h f Past Stops began Had Only Held before after old new result =
+    LeavesUnmounted request l windows h f Only Held before after old new result ⊎ LeavesMounted request input rest l windows h f Past Stops began Had Only Held before after old new result
 
 -- so it is by the layout that the mount has read: this one, or one beside it, where a root says so
-abbrev pub LeavesSaid : Request → (input rest : List ℕ) → Layout → List WeakRun → List Change → ℕ → (Past Stops : ℕ → Moment → Type 0) → (began : ℕ) → (Only Held : (Moment → Type 0) → Type 0) → (before after : Report) → (old new : Moment) → (result : ℕ) → Type 0
-LeavesSaid request input rest l windows h f Past Stops began Only Held before after old new result =
-    (layout : Layout) × IsSaid l old.image layout × LeavesBy request input rest layout windows h f Past Stops began Only Held before after old new result
+abbrev pub LeavesSaid : Request → (input rest : List ℕ) → Layout → List WeakRun → List Change → ℕ → (Past Stops : ℕ → Moment → Type 0) → (began : ℕ) → (Had : Moment → Type 0) → (Only Held : (Moment → Type 0) → Type 0) → (before after : Report) → (old new : Moment) → (result : ℕ) → Type 0
+LeavesSaid request input rest l windows h f Past Stops began Had Only Held before after old new result =
+    (layout : Layout) × IsSaid l old.image layout × LeavesBy request input rest layout windows h f Past Stops began Had Only Held before after old new result
 
 -- What was there as a run began: an image that is sound by this layout, in these windows, for these changes, so many of
 -- them forced.
@@ -283,4 +291,4 @@ pub record Was : Type 0 where
 -- What a run over such an image leaves at any stop, and how it ends; a is the machine as the run began, b at its end.
 abbrev pub LeavesRun : {D : Type 0} → Ghosts D → Request → (input rest : List ℕ) → Was → (a b : D) → (result : ℕ) → Type 0
 LeavesRun M request input rest was a b result =
-    LeavesSaid request input rest was.layout was.windows was.changes was.forced (M.left_since b) (stops M b) (M.moment a) (StopsOnly M a b) (IsHeld M b) (M.report a) (M.report b) (M.now a) (M.now b) result
+    LeavesSaid request input rest was.layout was.windows was.changes was.forced (M.left_since b) (stops M b) (M.moment a) (M.left_since a (M.now a).synced) (StopsOnly M a b) (IsHeld M b) (M.report a) (M.report b) (M.now a) (M.now b) result

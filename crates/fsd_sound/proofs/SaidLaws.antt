@@ -10,7 +10,7 @@ use Rattle.sector_disk.specs.Image.{sector_at, IsWorn}
 use Rattle.sector_disk.proofs.Wear.{worn_whole}
 use Rattle.fsd_files.specs.Disk.{Image, SectorWorn, Sectors, Has}
 use Rattle.fsd_sound.specs.Laid.{HasOwnRoots}
-use Rattle.fsd_sound.specs.Sound.{HasRoots, IsRootAt, IsRootOf, IsSaid, Says, SaysNoMore, SaysTurned}
+use Rattle.fsd_sound.specs.Sound.{EachBeside, EachSaid, HasRoots, IsRootAt, IsRootOf, IsSaid, Says, SaysNoMore, SaysTurned}
 use Rattle.fsd_sound.proofs.SectorFacts.{has_bytes, whole_before}
 
 -- ---- two images
@@ -52,6 +52,13 @@ says_no_more_then i j k first second l says = first l (second l says)
 -- what has the same root is said as well
 pub says_as : (l k : Layout) (i : Image) → root_bytes l ≡ root_bytes k → Says l i → Says k i
 says_as l k i same = ⊎_elim (λ is. inl (is ∙ ap (λ (b : List ℕ). Whole b) same)) (λ is. inr (is ∙ ap (λ (b : List ℕ). Whole b) same))
+
+-- what is so of each that is said stays so
+pub each_no_more : (i j : Image) (P : Layout → Type 0) → SaysNoMore i j → EachSaid i P → EachSaid j P
+each_no_more i j P less each k planned says = each k planned (less k says)
+
+pub worn_each : (weak : Sectors) (i j : Image) (P : Layout → Type 0) → IsWorn weak i j → EachSaid i P → EachSaid j P
+worn_each weak i j P w = each_no_more i j P (worn_says weak i j w)
 
 -- ---- layouts with the same root
 
@@ -96,6 +103,10 @@ module _ (l : Layout) (weak : Sectors) (i : Image) (roots : HasRoots l weak i) w
   pub said_other : (k : Layout) → IsBeside l k → Says k i → k ≡ roots.other
   said_other k beside says = ⊎_elim (λ same. absurd (beside_other l k beside same)) (λ other. other) (says_one k (planned_beside l k roots.planned beside) says)
 
+  -- what is so of each one beside it that a root says
+  pub said_either : (P : Layout → Type 0) → EachBeside l i P → EachSaid i (λ k. P k ⊎ (k ≡ l))
+  said_either P each k planned says = ⊎_elim (λ same. inr same) (λ other. inl (each k (subst (IsBeside l) (sym other) roots.beside) says)) (says_one k planned says)
+
 -- what is said beside a layout that is said, is said
 pub said_again : (l : Layout) (weak : Sectors) (i : Image) (found k : Layout) → HasRoots l weak i → IsSaid l i found → IsSaid found i k → IsSaid l i k
 said_again l weak i found k roots (inl is) (inl same) = inl (same ∙ is)
@@ -110,10 +121,21 @@ said_again l weak i found k roots (inr is) (inr more) =
 pub own_root : (l k : Layout) (weak : Sectors) (i : Image) → HasOwnRoots l weak i → Says k i → root_bytes l ≡ root_bytes k
 own_root l k weak i own = ⊎_elim (λ is. has_bytes weak i (root_bytes l) (root_bytes k) 0 own.0 is) (λ is. has_bytes weak i (root_bytes l) (root_bytes k) 4 own.1 is)
 
+-- they say the layout, where one stands
+pub own_says : (l k other : Layout) (weak : Sectors) (i : Image) → HasOwnRoots l weak i → IsRootAt k other i 0 ⊎ IsRootAt k other i 4 → Says l i
+own_says l k other weak i own = ⊎_elim (λ root. inl (at 0 own.0 root)) (λ root. inr (at 4 own.1 root))
+  where
+    at : (s : ℕ) → Has weak i (root_bytes l) s → IsRootAt k other i s → sector_at i s ≡ Whole (root_bytes l)
+    at s has root = root.1 ∙ ap (λ (bytes : List ℕ). Whole bytes) (sym (has_bytes weak i (root_bytes l) root.0 s has root.1))
+
+-- and no other
+pub own_said : (l : Layout) (weak : Sectors) (i : Image) → IsPlanned l → HasOwnRoots l weak i → EachSaid i (λ k. k ≡ l)
+own_said l weak i planned own k there says = same_root k l there planned (sym (own_root l k weak i own says))
+
 -- none of them says the layout turned
 pub own_roots_say : (l : Layout) (weak : Sectors) (i : Image) → HasOwnRoots l weak i → SaysTurned l i → ⊥
 own_roots_say l weak i own says = roots_differ l (own_root l (turned l) weak i own says)
 
 -- nor any other beside it
 pub own_alone : (l k : Layout) (weak : Sectors) (i : Image) → IsPlanned l → HasOwnRoots l weak i → IsBeside l k → Says k i → ⊥
-own_alone l k weak i planned own beside says = beside_other l k beside (same_root k l (planned_beside l k planned beside) planned (sym (own_root l k weak i own says)))
+own_alone l k weak i planned own beside says = beside_other l k beside (own_said l weak i planned own k (planned_beside l k planned beside) says)

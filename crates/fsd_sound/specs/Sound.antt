@@ -49,11 +49,15 @@ IsRootAt l other i s = (bytes : List ℕ) × (sector_at i s ≡ Whole bytes) × 
 abbrev pub Says : Layout → Image → Type 0
 Says k i = (sector_at i 0 ≡ Whole (root_bytes k)) ⊎ (sector_at i 4 ≡ Whole (root_bytes k))
 
+-- so it is of each layout that a root says, of those that may be planned
+abbrev pub EachSaid : Image → (Layout → Type 0) → Type 0
+EachSaid i P = (k : Layout) → IsPlanned k → Says k i → P k
+
 -- each layout that a root of the second image says was said by one of the first
 abbrev pub SaysNoMore : Image → Image → Type 0
 SaysNoMore i j = (k : Layout) → Says k j → Says k i
 
--- so it is of each layout beside this one that a root says
+-- and of each one beside this that a root says
 abbrev pub EachBeside : Layout → Image → (Layout → Type 0) → Type 0
 EachBeside l i P = (k : Layout) → IsBeside l k → Says k i → P k
 

@@ -13,7 +13,7 @@ use Rattle.fsd_files.specs.Desk.{Session}
 use Rattle.fsd_files.specs.Volume.{Volume}
 use Rattle.fsd_sound.specs.Mounted.{Mounted}
 use Rattle.fsd_sound.proofs.MoreLaws.{sound_more}
-use Rattle.fsd_sound.proofs.MountedLaws.{mounted_sound, mounted_tells}
+use Rattle.fsd_sound.proofs.MountedLaws.{mounted_tells}
 use Rattle.fsd_texts.specs.declared.fault.Fault.{Fault}
 use Rattle.fsd_texts.specs.declared.script_command.ScriptCommand.{ScriptCommand}
 use Rattle.fsd_texts.specs.Text.{fault_text}
@@ -31,6 +31,7 @@ use Rattle.volume_turns.proofs.HaltLaws.{stopped_ends, stopped_moments}
 use Rattle.volume_turns.proofs.RunLaws.{earlier_in}
 use Rattle.volume_turns.proofs.ScriptLaws.{in_from}
 use Rattle.volume_turns.proofs.TurnLaws.{none_done, stays_held, stays_stops, worn_state}
+use Rattle.volume_turns.proofs.StaysLaws.{mounted_stays}
 
 -- a call of the input that has not failed uses the disk as little
 pub uses_untaken : {D : Type 0} (M : Ghosts D) (a m : D) (takes : Bool) → LeavesDisk M takes false Wears a m → takes ≡ false → UsesDisk (M.report a) (M.report m)
@@ -53,7 +54,7 @@ module _ {S D : Type 0} (state : S → State) (has : S → Mounted → List Plac
   stays : (left : Moment) → Wears (M.now a) left → StaysSoundFor k (M.now a) left
   stays left w =
       let now = wears (M.now a) left short (record { image = w.image; windows = w.windows }) stands in
-      record { sound = mounted_sound k.mounted k.windows k.changes (forced_of k) left.image now.disk; windows = w.windows; said = w.said }
+      mounted_stays k (M.now a) left now.disk w.windows w.said
 
   stays_run : LeavesOnly M.moment M.left_since a m (StaysSoundFor k (M.now a))
   stays_run = leaves_more M.moment M.left_since a m (Wears (M.now a)) (StaysSoundFor k (M.now a)) stays any_moment

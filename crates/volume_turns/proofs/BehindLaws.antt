@@ -114,7 +114,7 @@ module _ {S D : Type 0} {state : S → State} {M : Ghosts D} {sectors : ℕ} {v 
       let first = x.disk.trust.honest back in (
         sound.0,
         sound.1,
-        joined_run state has M request input rest sound.0 was.windows was.changes was.forced a m b v (over_said honest) x.disk.uses x.disk.faults (timed a first) (timed m back) (x.disk.since back) (since honest) (λ c left. held c left sound.0 sound.1) (counts_now b (M.moment m) honest) status sound.2 runs,
+        joined_run state has M request input rest sound.0 was.windows was.changes was.forced a m b v (over_said honest) x.disk.uses x.disk.faults (timed a first) (timed m back) (timed b honest) (x.disk.since back) (since honest) (λ c left. held c left sound.0 sound.1) (counts_now b (M.moment m) honest) status sound.2 runs,
       )
 
 -- ---- by a line

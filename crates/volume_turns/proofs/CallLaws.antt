@@ -19,7 +19,6 @@ use Rattle.fsd_texts.specs.declared.call.Call.TheVariants as Calls
 use Rattle.fsd_texts.specs.declared.fault.Fault.{Fault}
 use Rattle.fsd_texts.specs.declared.script_command.ScriptCommand.TheVariants.{OfClient}
 use Rattle.fsd_runs.specs.Sessions.{CallMayFind, Meeting, call_answer, call_changes, call_may_wear_out, changes_closed}
-use Rattle.fsd_sound.proofs.MountedLaws.{mounted_sound}
 use Rattle.fsd_sound.specs.Mounted.{Mounted}
 use Rattle.volume_contract.specs.State.{Ages, Known, Leaves, Stands, State, forced_of, is_worn}
 use Rattle.client_desk.specs.declared.client.Client.{Client}
@@ -31,6 +30,7 @@ use Rattle.volume_turns.specs.Seats.{DoesIn, IsAnsweredIn, IsRefusedWornIn, Seat
 use Rattle.volume_turns.specs.Steps.{ended_by}
 use Rattle.volume_turns.proofs.NumberLaws.{goes_none}
 use Rattle.volume_turns.proofs.StepLaws.{less_touched, wear_stays}
+use Rattle.volume_turns.proofs.StaysLaws.{mounted_stays, sound_stays}
 
 -- what is met beside the volume, where nothing of it is
 abbrev pub met_none : Met
@@ -65,7 +65,7 @@ module _ {S : Type 0} (state : S → State) (has : S → Mounted → List Placed
 
   -- one that writes in what its clients have open
   pub writes_of_stay : {D : Type 0} (M : Ghosts D) (a b : D) (fault : Option ℕ) (v : S) (desk : List Client) (may : ℕ → Bool) → WritesDisk M fault (LeavesOf state has v desk may) a b → WritesDisk M fault (StaysIn state has (v, desk)) a b
-  writes_of_stay M a b fault v desk may writes = writes_more {P = LeavesOf state has v desk may} writes (λ h left leaves k sits. let l = leaves (known_of k) k.clients sits in record { sound = l.sound; windows = l.windows; said = l.said })
+  writes_of_stay M a b fault v desk may writes = writes_more {P = LeavesOf state has v desk may} writes (λ h left leaves k sits. sound_stays (known_of k) (M.now a) left may (leaves (known_of k) k.clients sits))
 
   -- a call that only reads
   pub reads_stay : {D : Type 0} (M : Ghosts D) (a b : D) (fault : Option ℕ) (v : S) (desk : List Client) → ((k : Known) (left : Moment) → AreShort (M.now a).windows → Ages (M.now a) left → Stands state has v k (M.now a) → Stands state has v k left) → (M.honest a → AreShort (M.now a).windows)
@@ -75,11 +75,7 @@ module _ {S : Type 0} (state : S → State) (has : S → Mounted → List Placed
 
   -- none
   pub none_stays : {D : Type 0} (M : Ghosts D) (a : D) (v : S) (desk : List Client) → ((c : Moment) → M.honest a → M.left_since a (M.moment a) c → c ≡ M.now a) → WritesDisk M None (StaysIn state has (v, desk)) a a
-  none_stays M a v desk only_now = writes_none a only_now (StaysIn state has (v, desk)) (λ h k sits. record {
-    sound = mounted_sound k.mounted k.windows k.changes (forced_of (known_of k)) (M.now a).image sits.stands.disk;
-    windows = refl;
-    said = refl;
-  })
+  none_stays M a v desk only_now = writes_none a only_now (StaysIn state has (v, desk)) (λ h k sits. mounted_stays (known_of k) (M.now a) (M.now a) sits.stands.disk refl refl)
 
   -- ---- how a call ends
 

@@ -39,6 +39,7 @@ use Rattle.volume_turns.proofs.HaltLaws.{held_behind, stops_saying}
 use Rattle.volume_turns.proofs.PlainLaws.{ArePlain, in_plain, sound_all}
 use Rattle.volume_turns.proofs.SayLaws.{KeepsSynced}
 use Rattle.volume_turns.proofs.TurnLaws.{stays_held, stays_stops}
+use Rattle.volume_turns.proofs.StaysLaws.{mounted_stays}
 
 -- ---- what was whole
 
@@ -117,11 +118,7 @@ module _ {S D : Type 0} (state : S → State) (has : S → Mounted → List Plac
   stands_synced = wears (M.now a) (M.now m) (short a (reads.trust.honest back)) since_a stands
 
   stays : (left : Moment) → Wears (M.now a) left → StaysSoundFor k (M.now a) left
-  stays left w = record {
-    sound = mounted_sound k.mounted k.windows k.changes (forced_of k) left.image (wears (M.now a) left (short a (reads.trust.honest back)) (record { image = w.image; windows = w.windows }) stands).disk;
-    windows = w.windows;
-    said = w.said;
-  }
+  stays left w = mounted_stays k (M.now a) left (wears (M.now a) left (short a (reads.trust.honest back)) (record { image = w.image; windows = w.windows }) stands).disk w.windows w.said
 
   stays_run : LeavesOnly M.moment M.left_since a m (StaysSoundFor k (M.now a))
   stays_run = leaves_more M.moment M.left_since a m (Wears (M.now a)) (StaysSoundFor k (M.now a)) stays (reads.any_moment back)

@@ -6,7 +6,7 @@ use Rattle.std.proofs.lemmas.Bool.{leb-false, leb-true, ltb-false, ltb-true}
 use Rattle.std.proofs.lemmas.List.{append-nil, length-append}
 use Rattle.std.proofs.lemmas.List.FromFn.{length-range_with_len}
 use Rattle.volume_layout.specs.declared.layout.Layout.{Layout}
-use Rattle.volume_layout.specs.Layout.{most_of}
+use Rattle.volume_layout.specs.Layout.{most_of, with_sectors}
 use Rattle.run_table.specs.declared.run.Run.{Run}
 use Rattle.run_table.specs.RunTable.{sectors_of, total}
 use Rattle.run_table.proofs.SectorLaws.{length_of_sectors, total_of_runs}
@@ -18,7 +18,7 @@ use Rattle.sector_disk.specs.Image.{AreShort, IsWorn}
 use Rattle.sector_disk.specs.Machine.{LeavesOnly, Moment}
 use Rattle.fsd_log.specs.Scan.{Placed}
 use Rattle.fsd_files.specs.Answers.{Outcome, grow_fault, grown, grown_unless}
-use Rattle.fsd_files.specs.Disk.{Image, Sectors, Touches, nowhere}
+use Rattle.fsd_files.specs.Disk.{Image, Touches, nowhere}
 use Rattle.fsd_files.specs.declared.reply.Reply.{Reply}
 use Rattle.fsd_files.specs.declared.reply.Reply.TheVariants as Said
 use Rattle.fsd_files.specs.Volume.{Volume, free_count}
@@ -31,7 +31,7 @@ use Rattle.fsd_runs.specs.Commands.{reply_alone}
 use Rattle.fsd_texts.specs.declared.command.Command.TheVariants as Word
 use Rattle.fsd_texts.specs.declared.fault.Fault.{Fault}
 use Rattle.fsd_texts.specs.declared.fault.Fault.TheVariants as Ends
-use Rattle.volume_contract.specs.Growth.{EndsGrow, LeavesGrown, grown_known, with_more}
+use Rattle.volume_contract.specs.Growth.{EndsGrow, grown_known, with_more}
 use Rattle.volume_contract.specs.Order.{IsDeviceIn, KeepsRefused, Roots, Test, grow_steps, is_idle, is_root}
 use Rattle.volume_contract.specs.State.{Ages, Known, Stands, State, downs_for, forced_of, none_open, volume_of}
 use Rattle.volume_turns.specs.declared.turns.Halt.{Halt}
@@ -41,13 +41,13 @@ use Rattle.volume_turns.specs.Commands.{RefusesGrowth}
 use Rattle.volume_turns.specs.Grow.{EndsGrown, GrowsTo, is_grown}
 use Rattle.volume_turns.specs.Once.{IsAlone, unit_of}
 use Rattle.scrub.specs.Telling.{AreOfPage}
-use Rattle.volume_turns.specs.Steps.{Does, IsToldOn, Stays, ended_by}
+use Rattle.volume_turns.specs.Steps.{Does, IsToldOn, StaysBy, ended_by}
 use Rattle.volume_turns.specs.Turns.{OnDisk, SaysAll, Unsaid, UttersBehind}
 use Rattle.volume_turns.proofs.AnsweringLaws.{alone_closed, closed_by}
 use Rattle.volume_turns.proofs.NumberLaws.{goes_none}
 use Rattle.volume_turns.proofs.CallLaws.{met_none}
 use Rattle.volume_turns.proofs.LongerLaws.{Wrote}
-use Rattle.volume_turns.proofs.RelaidLaws.{relaid_alone}
+use Rattle.volume_turns.proofs.RelaidLaws.{relaid_alone, relaid_undone}
 
 -- ---- how it is refused
 
@@ -75,22 +75,22 @@ module _ (l : Layout) (n : ℕ) where
 abbrev IsKept : ℕ → State → State → Refusal → Type 0
 IsKept n s t why = (grow_fault s.layout n ≡ Some why) × (t ≡ s)
 
--- the disk has failed
-abbrev FailsGrow : State → State → Refusal → Type 0
-FailsGrow s t why = (place : ℕ) × (why ≡ Why.Device place) × (t ≡ record s { down = Some place })
+-- nothing did, and the disk has failed
+abbrev FailsGrow : ℕ → State → State → Refusal → Type 0
+FailsGrow n s t why = (place : ℕ) × (why ≡ Why.Device place) × (grow_fault s.layout n ≡ None) × (t ≡ record s { down = Some place })
 
-device_fails : (s t : State) (why : Refusal) → IsDeviceIn is_root why → t ≡ record s { down = downs_for why } → FailsGrow s t why
-device_fails s t (Why.Device place) is fails = (place, refl, fails)
-device_fails s t why is fails = absurd is
+device_fails : (n : ℕ) (s t : State) (why : Refusal) → grow_fault s.layout n ≡ None → IsDeviceIn is_root why → t ≡ record s { down = downs_for why } → FailsGrow n s t why
+device_fails n s t (Why.Device place) passes is fails = (place, refl, passes, fails)
+device_fails n s t why passes is fails = absurd is
 
-pub grow_kept : (n : ℕ) (s t : State) → s.down ≡ None → (why : Refusal) → KeepsRefused (grow_steps s n) why s t → IsKept n s t why ⊎ FailsGrow s t why
+pub grow_kept : (n : ℕ) (s t : State) → s.down ≡ None → (why : Refusal) → KeepsRefused (grow_steps s n) why s t → IsKept n s t why ⊎ FailsGrow n s t why
 grow_kept n s t up why (inl here) = let not_down : None ≡ Some why = subst (λ (o : Option ℕ). option_map Why.Down o ≡ Some why) up here.0 in absurd (cc not_down)
 grow_kept n s t up why (inr (passes, inl here)) = inl (here.0, here.1)
-grow_kept n s t up why (inr (passes, inr (fits, roots))) = inr (device_fails s t why roots.0 roots.1)
+grow_kept n s t up why (inr (passes, inr (fits, roots))) = inr (device_fails n s t why fits roots.0 roots.1)
 
 -- so it is told
-pub grow_refused : (P : Result Reply Fault → Type 0) (n : ℕ) (s t : State) (why : Refusal) (r : Result Reply Fault) → r ≡ ended_by why → IsKept n s t why ⊎ FailsGrow s t why
-    → (IsKept n s t why → P (Ok (Said.Refused why))) → ((place : ℕ) → why ≡ Why.Device place → t ≡ record s { down = Some place } → P (Err (Ends.Device place))) → P r
+pub grow_refused : (P : Result Reply Fault → Type 0) (n : ℕ) (s t : State) (why : Refusal) (r : Result Reply Fault) → r ≡ ended_by why → IsKept n s t why ⊎ FailsGrow n s t why
+    → (IsKept n s t why → P (Ok (Said.Refused why))) → ((place : ℕ) → why ≡ Why.Device place → (grow_fault s.layout n ≡ None) × (t ≡ record s { down = Some place }) → P (Err (Ends.Device place))) → P r
 grow_refused P n s t why r is (inl kept) refused device =
     subst P (sym is) (refused_as s.layout n (λ w. P (Ok (Said.Refused w)) → P (ended_by w)) why kept.0 (λ p. p) (λ most past p. p) (refused kept))
 grow_refused P n s t why r is (inr fails) refused device = subst P (sym (is ∙ ap ended_by fails.1)) (device fails.0 fails.1 fails.2)
@@ -114,10 +114,6 @@ ends_refused n s t answer not_so ends = absurd ends
 pub ends_grown : (n : ℕ) (s t : State) (answer : Reply) → is_grown answer ≡ true → EndsGrown n s t (Ok answer) → (free : ℕ) × (answer ≡ Said.Grown n free) × GrowsTo n free s t
 ends_grown n s t (Said.Grown m free) is ends = (free, ap (λ (x : ℕ). Said.Grown x free) ends.0, ends.1)
 ends_grown n s t answer is ends = absurd (cc is)
-
--- the mount is not told as worn out
-pub grow_unworn : (n : ℕ) (s t : State) (fault : Fault) → EndsGrown n s t (Err fault) → fault ≡ Ends.WornOut → ⊥
-grow_unworn n s t fault ends is = (let r : Fault → Result Reply Fault = λ x. Err x in subst (λ (x : Fault). EndsGrown n s t (r x)) is ends)
 
 -- ---- how many are free
 
@@ -161,10 +157,6 @@ module _ {S : Type 0} (state : S → State) (has : S → Mounted → List Placed
   pub stands_kept : (l : Layout) (why : Refusal) → grow_fault l n ≡ Some why → (let r : Result ℕ Refusal = Err why in EndsGrow state has n k w now r) → Stands state has w k now
   stands_kept l why is = refused_as l n (λ x. (let r : Result ℕ Refusal = Err x in EndsGrow state has n k w now r) → Stands state has w k now) why is (λ ends. ends) (λ most past ends. ends)
 
--- a stop leaves the disk sound as it was
-pub longer_stays : {S : Type 0} (state : S → State) (has : S → Mounted → List Placed → Type 0) (n : ℕ) (v : S) (may : Sectors) (old left : Moment) → LeavesGrown state has n v may old left → Stays state has v old left
-longer_stays state has n v may old left leaves k stands = let l = leaves k stands in record { sound = l.sound; windows = l.windows; said = l.said }
-
 -- ---- one that is done, by itself
 
 module _ {S D : Type 0} (state : S → State) (has : S → Mounted → List Placed → Type 0) (M : Ghosts D)
@@ -172,7 +164,7 @@ module _ {S D : Type 0} (state : S → State) (has : S → Mounted → List Plac
     (short : (m : D) → M.honest m → AreShort (M.now m).windows)
     (timed : (m : D) → M.honest m → IsTimed M m)
     (n free : ℕ) (v w : S) (a m b : D) (k : Known) (none : k.opened ≡ none_open) (forced : (volume_of k).unforced ≡ 0) (stood : Stands state has v k (M.now a)) (on : OnDisk M k (forced_of k) a)
-    (disk : Wrote M (Stays state has v) a m) (honest : M.honest m) (since : Since M m b)
+    (disk : Wrote M (StaysBy (with_sectors n) state has v) a m) (honest : M.honest m) (since : Since M m b)
     (x : GrowsTo n free (state v) (state w)) (does : Does state has (Word.Grow n) v w k (M.now a) (M.now m) (Ok (Said.Grown n free))) where
   volume_is : grown n (volume_of k) ≡ volume_of does.0
   volume_is = ap (λ (o : Outcome). o.1) (sym (answered_by state has n v w k (M.now a) (M.now m) stood None x.passes) ∙ does.1.is)
@@ -184,8 +176,16 @@ module _ {S D : Type 0} (state : S → State) (has : S → Mounted → List Plac
   pub grown_alone : (text : List ℕ) → text ≡ reply_alone (Said.Grown n free) → M.honest b → LeavesOnly M.moment M.left_since m b (UttersBehind true text (M.now m)) → (r : Result ℕ Halt) → (r ≡ Err (Stopped Ends.Memory) → b ≡ m) → IfOk r (λ status. status ≡ 0)
       → OnOk (unit_of r) (SaysAll text (M.now m) (M.now b)) → OnOk (unit_of r) ((M.now m).time ≤ (M.now b).synced) → IfErr (unit_of r) (λ end. Unsaid (M.now m) (M.now b) end) → IsAlone M (Word.Grow n) k a b r
   grown_alone text is honest_b run r undone gives all synced unsaid =
-      relaid_alone state has M v a m k forced stood disk honest wears short timed (Word.Grow n) (λ y. refl) (Said.Grown n free) w b none on since does (ap (λ (y : Volume). y.unforced) (sym volume_is) ∙ forced) (ap telling_of volume_is) alike
+      relaid_alone state has M v a m k forced stood (with_sectors n) disk honest wears short timed (Word.Grow n) (λ y. refl) (Said.Grown n free) w b none on since does (ap (λ (y : Volume). y.layout) volume_is) (ap (λ (y : Volume). y.unforced) (sym volume_is) ∙ forced) (ap telling_of volume_is) alike
       text is honest_b run r undone gives all synced unsaid
+
+-- ---- one that failed
+
+pub grow_failed : {S D : Type 0} (state : S → State) (has : S → Mounted → List Placed → Type 0) (M : Ghosts D) → ((s : S) (k : Known) (old new : Moment) → AreShort old.windows → Ages old new → Stands state has s k old → Stands state has s k new) → ((m : D) → M.honest m → AreShort (M.now m).windows) → ((m : D) → M.honest m → IsTimed M m)
+    → (n : ℕ) (v w : S) (a m : D) (k : Known) → k.opened ≡ none_open → Stands state has v k (M.now a) → OnDisk M k (forced_of k) a → Wrote M (StaysBy (with_sectors n) state has v) a m → M.honest m → (fault : Fault) → EndsGrown n (state v) (state w) (Err fault) → IsAlone M (Word.Grow n) k a m (Err (Stopped fault))
+grow_failed state has M wears short timed n v w a m k none stood on disk honest (Ends.Device place) ends =
+    relaid_undone state has M wears short timed (Word.Grow n) (λ x. refl) refl v w a m k none stood on (with_sectors n) disk honest tt (Said.Grown n (free_count (grown n (volume_of k)))) (answered_by state has n v w k (M.now a) (M.now m) stood None ends.0) (Ends.Device place) tt
+grow_failed state has M wears short timed n v w a m k none stood on disk honest fault ends = absurd ends
 
 -- what it says and writes, whatever the image
 pub grown_answers : (n free : ℕ) (s t : State) (a m b : Moment) → m.windows ≡ a.windows → m.said ≡ a.said → MayAnswer (Word.Grow n) s t a m (Ok (Said.Grown n free)) → Ages m b → (r : Result ℕ Halt) → IfOk r (λ status. status ≡ 0) → SaysBy (reply_alone (Said.Grown n free)) m b (unit_of r)

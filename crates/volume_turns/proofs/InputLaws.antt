@@ -19,7 +19,7 @@ use Rattle.fsd_files.specs.Files.{Change}
 use Rattle.fsd_sound.specs.Laid.{HasOwnRoots}
 use Rattle.fsd_sound.specs.Mounted.{IsMounted, Mounted}
 use Rattle.fsd_sound.specs.Sound.{IsSound, weak_of}
-use Rattle.fsd_sound.proofs.MountedLaws.{mounted_lasts, mounted_sound, mounted_tells}
+use Rattle.fsd_sound.proofs.MountedLaws.{mounted_lasts, mounted_tells}
 use Rattle.fsd_texts.specs.declared.command.Command.{Command}
 use Rattle.fsd_texts.specs.declared.command.Command.TheVariants as Word
 use Rattle.fsd_texts.specs.declared.fault.Fault.{Fault}
@@ -44,6 +44,7 @@ use Rattle.volume_turns.proofs.GroupEndLaws.{finishes_last}
 use Rattle.volume_turns.proofs.GroupLaws.{goes_wider}
 use Rattle.volume_turns.proofs.HaltLaws.{broken_ends, broken_moments, said_halts}
 use Rattle.volume_turns.proofs.TurnLaws.{said_nothing, stays_held, stays_stops}
+use Rattle.volume_turns.proofs.StaysLaws.{mounted_stays}
 
 -- ---- what a put of the input asks for
 
@@ -131,7 +132,7 @@ module _ {S D : Type 0} (state : S → State) (has : S → Mounted → List Plac
   stands_in left w = wears (M.now a) left (short a (reads.trust.honest back)) (record { image = w.image; windows = w.windows }) stands
 
   stays : (left : Moment) → Wears (M.now a) left → StaysSoundFor k (M.now a) left
-  stays left w = record { sound = mounted_sound k.mounted k.windows k.changes (forced_of k) left.image (stands_in left w).disk; windows = w.windows; said = w.said }
+  stays left w = mounted_stays k (M.now a) left (stands_in left w).disk w.windows w.said
 
   stays_run : LeavesOnly M.moment M.left_since a m (StaysSoundFor k (M.now a))
   stays_run = leaves_more M.moment M.left_since a m (Wears (M.now a)) (StaysSoundFor k (M.now a)) stays (reads.any_moment back)

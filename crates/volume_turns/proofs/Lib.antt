@@ -49,6 +49,7 @@ pub mod RelaidLaws
 pub mod RestoreLaws
 pub mod RestoreOutLaws
 pub mod RestoreTakingLaws
+pub mod RootedLaws
 pub mod RunLaws
 pub mod SaidLaws
 pub mod SayLaws
@@ -61,6 +62,7 @@ pub mod ScrubLaws
 pub mod SeatLaws
 pub mod SpeaksLaws
 pub mod StatusLaws
+pub mod StaysLaws
 pub mod StepLaws
 pub mod SyncLaws
 pub mod TakingLaws

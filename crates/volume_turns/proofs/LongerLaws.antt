@@ -1,17 +1,21 @@
 -- An image that may get more sectors: how many are told, what is touched, and what a call leaves.
-use Rattle.std.proofs.Common.{◌≡◌, ℕ, Bool, Option, true, false, refl, sym, subst, arith}
+use Rattle.std.proofs.Common.{◌≡◌, ℕ, Bool, List, Option, true, false, refl, sym, subst, arith}
 use Rattle.sector_disk.specs.declared.machine.Machine.{Ghosts}
 use Rattle.sector_disk.specs.Calls.{GrowsDisk, Since, WritesDisk}
+use Rattle.sector_disk.proofs.CallLaws.{writes_none}
 use Rattle.sector_disk.specs.Image.{IsWorn, Windows, open_damage, sector_at}
 use Rattle.sector_disk.specs.Machine.{LeavesOnly, Moment}
 use Rattle.fsd_files.specs.Disk.{Sectors, SectorWorn, Touches, TouchesLonger, nowhere}
 use Rattle.fsd_texts.specs.declared.command.Command.{Command}
 use Rattle.fsd_texts.specs.declared.command.Command.TheVariants as Word
 use Rattle.scrub.proofs.LeadLaws.{touches_then, worn_then, worn_touches}
+use Rattle.fsd_log.specs.Scan.{Placed}
+use Rattle.fsd_sound.specs.Mounted.{Mounted}
 use Rattle.volume_contract.specs.State.{State}
 use Rattle.volume_turns.specs.Commands.{TouchesBy, may_write}
-use Rattle.volume_turns.specs.Steps.{is_alone, may_grow}
+use Rattle.volume_turns.specs.Steps.{Stays, is_alone, may_grow}
 use Rattle.volume_turns.specs.Turns.{KeepsSectors}
+use Rattle.volume_turns.proofs.StaysLaws.{mounted_stays}
 
 -- ---- how many are told
 
@@ -69,3 +73,7 @@ module _ {D : Type 0} {M : Ghosts D} {R : Moment → Moment → Type 0} {fault :
 
   pub wrote_longer : GrowsDisk M fault R a b → Wrote M R a b
   wrote_longer w = record { back = w.trust.honest; quiet = w.quiet; windows = w.windows; exit = w.exit; since = w.since; any_moment = w.any_moment }
+
+-- nothing was called
+pub wrote_none : {S D : Type 0} (state : S → State) (has : S → Mounted → List Placed → Type 0) (M : Ghosts D) (v : S) (a m : D) → m ≡ a → ((c : Moment) → M.honest a → M.left_since a (M.moment a) c → c ≡ M.now a) → Wrote M (Stays state has v) a m
+wrote_none state has M v a m same only_now = subst (λ (x : D). Wrote M (Stays state has v) a x) (sym same) (wrote (writes_none a only_now (Stays state has v) (λ h k stands. mounted_stays k (M.now a) (M.now a) stands.disk refl refl)))

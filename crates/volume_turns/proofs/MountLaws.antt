@@ -117,6 +117,9 @@ module _ (l : Layout) (windows : List WeakRun) (run : WeakRun) (h : List Change)
   mounted : IsMounted k.mounted k.windows k.changes (length k.changes) mid.image
   mounted = fresh_mounted k.mounted k.windows k.changes mid.image s.fresh
 
+  pub as_known : IsMounted k.mounted k.windows k.changes (forced_of k) mid.image
+  as_known = subst (λ (x : ℕ). IsMounted k.mounted k.windows k.changes x mid.image) (let none = s.fresh.unforced in let all : length k.changes ≡ forced_of k = omega (arith, none) in all) mounted
+
   own : IfSome (anchor_of mid.image) (λ a. a ≡ k.mounted.anchor)
   own = let both = mounted.over.own.own in newer_own k.mounted.anchor (anchor_at mid.image 8) (anchor_at mid.image 12) both.0 both.1
 

@@ -1,9 +1,10 @@
 -- One command by itself.
-use Rattle.std.proofs.Common.{◌+◌, ◌≡◌, inl, inr, ⊎_elim, ℕ, zero, suc, ◌≤◌, Bool, true, false, List, [], ◌∷◌, ◌++◌, length, take, Option, Some, refl, sym, ◌∙◌, ap, subst, arith, length-append}
+use Rattle.std.proofs.Common.{◌+◌, ◌≡◌, ◌⊎◌, inl, inr, ⊎_elim, ℕ, zero, suc, ◌≤◌, Bool, true, false, List, [], ◌∷◌, ◌++◌, length, take, Option, Some, refl, sym, ◌∙◌, ap, subst, arith, length-append}
 use Rattle.fsd_log.specs.Scan.{Placed}
 use Rattle.std.specs.Prelude.{⊤, Result, Ok, Err, OnOk, IfOk, IfErr}
 use Rattle.std.proofs.lemmas.List.{append-nil}
 use Rattle.volume_layout.specs.declared.layout.Layout.{Layout}
+use Rattle.volume_layout.specs.Layout.{IsPlanned}
 use Rattle.volume_layout.specs.Root.{root_bytes}
 use Rattle.fsd_bytes.specs.declared.refusal.Refusal.{Refusal}
 use Rattle.fsd_bytes.specs.declared.refusal.Refusal.TheVariants as Why
@@ -23,15 +24,15 @@ use Rattle.fsd_sound.specs.Shown.{told}
 use Rattle.fsd_sound.specs.Sound.{IsSound, EndIn, weak_of}
 use Rattle.fsd_sound.proofs.LaidLaws.{has_worn}
 use Rattle.fsd_sound.proofs.MoreLaws.{sound_fewer, sound_more, wear_sound}
-use Rattle.fsd_sound.proofs.MountedLaws.{mounted_sound}
+use Rattle.fsd_sound.proofs.MountedLaws.{mounted_sound, mounted_tells}
 use Rattle.fsd_sound.proofs.WindowLaws.{open_is_weak}
 use Rattle.fsd_texts.specs.declared.command.Command.{Command}
 use Rattle.fsd_texts.specs.declared.fault.Fault.{Fault}
 use Rattle.fsd_texts.specs.declared.fault.Fault.TheVariants as Ends
 use Rattle.fsd_texts.specs.declared.script_command.ScriptCommand.{ScriptCommand}
 use Rattle.fsd_texts.specs.declared.script_command.ScriptCommand.TheVariants.{Plain}
-use Rattle.fsd_runs.specs.Commands.{reply_alone, reply_status}
-use Rattle.fsd_runs.specs.Sessions.{answer_in, changes_in_session}
+use Rattle.fsd_runs.specs.Commands.{may_wear_out, reply_alone, reply_status}
+use Rattle.fsd_runs.specs.Sessions.{MayMeet, Meeting, answer_in, changes_in_session}
 use Rattle.fsd_runs.proofs.SessionLaws.{command_grows}
 use Rattle.fsd_runs.specs.Errands.{Turn, errand_alone, blank}
 use Rattle.fsd_table.specs.Table.{Telling}
@@ -47,12 +48,13 @@ use Rattle.volume_turns.specs.Once.{Anything, close_fault, InClose, SaysClosedBy
 use Rattle.volume_contract.specs.Order.{IsDeviceRefusal}
 use Rattle.volume_contract.specs.State.{State, Ages, Known, volume_of, forced_of, Stands, Leaves, is_worn, none_open}
 use Rattle.volume_turns.specs.Seats.{IsAnsweredIn, Seated, SitsAt, seated, session_in}
-use Rattle.volume_turns.specs.Steps.{Does, IsAnswered, Stays, StaysSoundFor}
+use Rattle.volume_turns.specs.Steps.{Does, IsAnswered, SaysEither, StaysBy, StaysSaying, StaysSoundFor}
 use Rattle.volume_turns.specs.Turns.{InRun, EndsAtOnce, OnDisk, SaysAll, Unsaid, UttersBehind, turn_by}
 use Rattle.volume_turns.proofs.TurnLaws.{in_part, in_saying_at, says_nothing, stays_held, stays_stops}
 use Rattle.volume_turns.proofs.RunLaws.{stepped}
 use Rattle.volume_turns.proofs.SeatLaws.{none_holds, plain_answered, seat_on}
 use Rattle.volume_turns.proofs.LongerLaws.{Wrote}
+use Rattle.volume_turns.proofs.StaysLaws.{mounted_stays, own_either, say_as, sound_stays, stays_say}
 
 -- ---- the end of a volume
 
@@ -117,6 +119,9 @@ module _ {D : Type 0} (M : Ghosts D) (k : Known) (f : ℕ) (own : Layout) (text 
       (λ last shown u left sooner lately either. ⊎_elim (λ none. saying_none shown last u none (⊎_elim (λ was. was) (fewer shown) either))
       (λ synced. saying_closed shown last u (lately (let dated = at_m.dated in omega (arith, synced, dated)))) (u.synced refl))
 
+  pub saying_own : IsPlanned own → LeavesOnly M.moment M.left_since m b (λ c. SaysEither own k c.image)
+  saying_own planned = leaves_more M.moment M.left_since m b (UttersBehind true text (M.now m)) (λ c. SaysEither own k c.image) (λ c u. own_either own k c.image planned (rooted c u)) run
+
   said_held : (M.now m).time ≤ (M.now b).synced → IsHeld M b (IsSoundFor (length k.changes))
   said_held synced c left = worn c (run.each c (at_b.history.sooner (M.moment m) (M.now b).synced c (let dated = at_m.dated in omega (arith, synced, dated)) left))
 
@@ -147,7 +152,7 @@ module _ {D : Type 0} (M : Ghosts D) (k : Known) (f : ℕ) (own : Layout) (text 
 module _ {S D : Type 0} (state : S → State) (has : S → Mounted → List Placed → Type 0) (M : Ghosts D) (v : S) (a m b : D) (k : Known) (f : ℕ) (stands : Stands state has v k (M.now a)) (on : OnDisk M k f a) (text : List ℕ) (may : ℕ → Bool) (fault : Option ℕ)
     (disk : WritesDisk M fault (Leaves state has v may) a m) (honest : M.honest m) (at_a : IsTimed M a) (at_m : IsTimed M m) where
   closing_run : LeavesOnly M.moment M.left_since a m (StaysSoundFor k (M.now a))
-  closing_run = leaves_more M.moment M.left_since a m (Leaves state has v may (M.now a)) (StaysSoundFor k (M.now a)) (λ left leaves. let l = leaves k stands in record { sound = l.sound; windows = l.windows; said = l.said }) (disk.any_moment honest)
+  closing_run = leaves_more M.moment M.left_since a m (Leaves state has v may (M.now a)) (StaysSoundFor k (M.now a)) (λ left leaves. sound_stays k (M.now a) left may (leaves k stands)) (disk.any_moment honest)
 
   closing : (n : ℕ) → f ≤ n → (shown last : Moment) → StaysSoundFor k (M.now a) last → IsSound k.mounted.volume.layout k.windows k.changes n shown.image → InClose k.mounted.volume.layout k f text (M.now a) (shows_of shown last)
   closing n least shown last stays sound =
@@ -162,7 +167,7 @@ module _ {S D : Type 0} (state : S → State) (has : S → Mounted → List Plac
   close_held = stays_held M k f a m at_a at_m (disk.since honest) closing_run on
 
   pub close_failed : (why : Refusal) → IsDeviceRefusal why → ClosesAndSays M k f text a m (Err (Stopped (close_fault why)))
-  close_failed why is = record { moments = close_moments; ends = (device_ends why is, record { windows = disk.windows honest; said = disk.quiet honest; held = close_held.each }) }
+  close_failed why is = record { moments = close_moments; says = stays_say M k.mounted.volume.layout k (M.now a) a m closing_run; ends = (device_ends why is, record { windows = disk.windows honest; said = disk.quiet honest; held = close_held.each }) }
 
   module _ (closes : Closes k (M.now m).image) (short : AreShort (M.now m).windows) (at_b : IsTimed M b) (since : Since M m b) (run : LeavesOnly M.moment M.left_since m b (UttersBehind true text (M.now m))) where
     ends_in : EndIn (M.now m).windows k.windows
@@ -175,24 +180,27 @@ module _ {S D : Type 0} (state : S → State) (has : S → Mounted → List Plac
     pub close_said : (r : Result (Unit {0}) Halt) → OnOk r (SaysAll text (M.now m) (M.now b)) → OnOk r ((M.now m).time ≤ (M.now b).synced) → IfErr r (λ end. Unsaid (M.now m) (M.now b) end) → ClosesAndSays M k f text a b r
     close_said r says synced unsaid = record {
       moments = both;
+      says = then_on M.moment M.left_since a m b (λ c. SaysEither k.mounted.volume.layout k c.image) (stays_say M k.mounted.volume.layout k (M.now a) a m closing_run)
+          (saying_own M k f k.mounted.volume.layout text a m b (disk.windows honest) (disk.quiet honest) ends_in closes.sound closes.tells closes.roots short close_held at_m at_b since run closes.sound.readable.roots.planned);
       ends = said_closed M k f k.mounted.volume.layout text a m b (disk.windows honest) (disk.quiet honest) ends_in closes.sound closes.tells closes.roots short close_held at_m at_b since run r says synced unsaid;
     }
 
 -- where all was forced before, and the roots are those of this layout
-pub says_closed : {D : Type 0} (M : Ghosts D) (m b : D) (k : Known) (f : ℕ) (own : Layout) (text : List ℕ) → EndIn (M.now m).windows k.windows → IsSound k.mounted.volume.layout k.windows k.changes (length k.changes) (M.now m).image
+pub says_closed : {D : Type 0} (M : Ghosts D) (m b : D) (k : Known) (f : ℕ) (own : Layout) (text : List ℕ) → IsPlanned own → EndIn (M.now m).windows k.windows → IsSound k.mounted.volume.layout k.windows k.changes (length k.changes) (M.now m).image
     → AllWorn (weak_of k.windows) (λ j. told k.mounted.volume.layout j ≡ Some (telling_of (volume_of k))) (M.now m).image → HasOwnRoots own (weak_of k.windows) (M.now m).image → AreShort (M.now m).windows → OnDisk M k f m → IsTimed M m → IsTimed M b → Since M m b
     → LeavesOnly M.moment M.left_since m b (UttersBehind true text (M.now m)) → (r : Result (Unit {0}) Halt) → OnOk r (SaysAll text (M.now m) (M.now b)) → OnOk r ((M.now m).time ≤ (M.now b).synced) → IfErr r (λ end. Unsaid (M.now m) (M.now b) end) → ClosesAndSaysBy own M k f text m b r
-says_closed M m b k f own text ends sound tells roots short disk at_m at_b since run r says synced unsaid = record {
+says_closed M m b k f own text planned ends sound tells roots short disk at_m at_b since run r says synced unsaid = record {
   moments = saying_moments M k f own text m m b refl refl ends sound tells roots short disk at_m at_b since run;
+  says = saying_own M k f own text m m b refl refl ends sound tells roots short disk at_m at_b since run planned;
   ends = said_closed M k f own text m m b refl refl ends sound tells roots short disk at_m at_b since run r says synced unsaid;
 }
 
 -- ---- what was not begun
 
 -- a run of calls that says nothing
-quiet_stops : {D : Type 0} (M : Ghosts D) (a m : D) (k : Known) (own : Layout) → IsTimed M a → IsTimed M m → Since M a m → LeavesOnly M.moment M.left_since a m (StaysSoundFor k (M.now a)) → StopsOnly M a m (SaysRooted own k (M.now a))
-quiet_stops M a m k own at_a at_m since run =
-    stops_by M a m (StaysSoundFor k (M.now a)) (λ c. ⊤) at_a at_m since run (λ c left. tt) (SaysRooted own k (M.now a)) (λ c stays. inl stays.said) (λ last shown stays left sooner lately either. inl stays.said)
+quiet_stops : {D : Type 0} {other : Layout} (M : Ghosts D) (a m : D) (k : Known) (own : Layout) → IsTimed M a → IsTimed M m → Since M a m → LeavesOnly M.moment M.left_since a m (StaysSaying other k (M.now a)) → StopsOnly M a m (SaysRooted own k (M.now a))
+quiet_stops {other = other} M a m k own at_a at_m since run =
+    stops_by M a m (StaysSaying other k (M.now a)) (λ c. ⊤) at_a at_m since run (λ c left. tt) (SaysRooted own k (M.now a)) (λ c stays. inl stays.said) (λ last shown stays left sooner lately either. inl stays.said)
 
 -- it leaves all as it is
 module _ {S D : Type 0} (state : S → State) (has : S → Mounted → List Placed → Type 0) (M : Ghosts D) (v : S) (a : D) (k : Known) (f : ℕ) (at_a : IsTimed M a) (stands : Stands state has v k (M.now a)) (on : OnDisk M k f a) where
@@ -203,7 +211,10 @@ module _ {S D : Type 0} (state : S → State) (has : S → Mounted → List Plac
   sound_here = mounted_sound k.mounted k.windows k.changes (forced_of k) (M.now a).image stands.disk
 
   none_run : LeavesOnly M.moment M.left_since a a (StaysSoundFor k (M.now a))
-  none_run = started M.moment M.left_since a (M.now a) (StaysSoundFor k (M.now a)) at_a.only (record { sound = sound_here; windows = refl; said = refl })
+  none_run = started M.moment M.left_since a (M.now a) (StaysSoundFor k (M.now a)) at_a.only (mounted_stays k (M.now a) (M.now a) stands.disk refl refl)
+
+  pub none_says : LeavesOnly M.moment M.left_since a a (λ c. SaysEither k.mounted.volume.layout k c.image)
+  none_says = stays_say M k.mounted.volume.layout k (M.now a) a a none_run
 
   none_at : (text : List ℕ) (n : ℕ) → f ≤ n → (shown last : Moment) → StaysSoundFor k (M.now a) last → IsSound k.mounted.volume.layout k.windows k.changes n shown.image → InClose k.mounted.volume.layout k f text (M.now a) (shows_of shown last)
   none_at text n least shown last stays sound =
@@ -215,6 +226,7 @@ module _ {S D : Type 0} (state : S → State) (has : S → Mounted → List Plac
     moments = stops_by M a a (StaysSoundFor k (M.now a)) (λ c. IsSound k.mounted.volume.layout k.windows k.changes f c.image) at_a at_a still none_run on.each (InClose k.mounted.volume.layout k f text (M.now a))
         (λ c stays. none_at text (forced_of k) on.most c c stays stays.sound)
         (λ last shown stays left sooner lately either. ⊎_elim (λ was. none_at text f (omega arith) shown last stays was) (λ now. none_at text (forced_of k) on.most shown last stays now.sound) either);
+    says = none_says;
     ends = (tt, record { windows = refl; said = refl; held = on.each });
   }
 
@@ -236,6 +248,7 @@ alone_unbegun state has M command v a k at_a stands on = record {
   mets = [];
   goes = λ t le. tt;
   moments = stops_unbegun state has M v a k (forced_of k) at_a stands on (blank ∷ []);
+  says = none_says state has M v a k (forced_of k) at_a stands on;
   rooted = rooted_unbegun state has M v a k (forced_of k) at_a stands on (volume_of k).layout;
   ends = record { once = tt; said = refl; spared = λ is. sound_here state has M v a k (forced_of k) at_a stands on; held = held_none M k (forced_of k) a on.each };
 }
@@ -247,7 +260,10 @@ module _ {S D : Type 0} (state : S → State) (has : S → Mounted → List Plac
     (short : (m : D) → M.honest m → AreShort (M.now m).windows)
     (timed : (m : D) → M.honest m → IsTimed M m)
     (command : Command) (v w : S) (a m b : D) (k : Known) (none : k.opened ≡ none_open) (stood : Stands state has v k (M.now a)) (on : OnDisk M k (forced_of k) a)
-    (disk : Wrote M (Stays state has v) a m) (honest : M.honest m) (since : Since M m b) where
+    (turn_to : Layout → Layout) (disk : Wrote M (StaysBy turn_to state has v) a m) (honest : M.honest m) (since : Since M m b) where
+  abbrev own : Layout
+  own = turn_to k.mounted.volume.layout
+
   same : Ages (M.now a) (M.now a)
   same = record { image = worn_refl (open_damage (M.now a).windows) (M.now a).image; windows = refl }
 
@@ -266,14 +282,17 @@ module _ {S D : Type 0} (state : S → State) (has : S → Mounted → List Plac
   at_m : IsTimed M m
   at_m = timed m honest
 
-  stays_run : LeavesOnly M.moment M.left_since a m (StaysSoundFor k (M.now a))
-  stays_run = leaves_more M.moment M.left_since a m (Stays state has v (M.now a)) (StaysSoundFor k (M.now a)) (λ left stays. stays k stood) (disk.any_moment honest)
+  stays_run : LeavesOnly M.moment M.left_since a m (StaysSaying own k (M.now a))
+  stays_run = leaves_more M.moment M.left_since a m (StaysBy turn_to state has v (M.now a)) (StaysSaying own k (M.now a)) (λ left stays. stays k stood) (disk.any_moment honest)
+
+  says_run : (behind : Layout) → (own ≡ behind) ⊎ (own ≡ k.mounted.volume.layout) → LeavesOnly M.moment M.left_since a m (λ c. SaysEither behind k c.image)
+  says_run behind same = say_as M own behind k a m same (stays_say M own k (M.now a) a m stays_run)
 
   before : (turns : List Turn) → StopsOnly M a m (InRun k (forced_of k) turns (M.now a))
   before turns = stays_stops M k (forced_of k) a m at_a at_m (disk.since honest) stays_run on turns
 
-  quiet_before : (own : Layout) → StopsOnly M a m (SaysRooted own k (M.now a))
-  quiet_before own = quiet_stops M a m k own at_a at_m (disk.since honest) stays_run
+  quiet_before : (behind : Layout) → StopsOnly M a m (SaysRooted behind k (M.now a))
+  quiet_before behind = quiet_stops M a m k behind at_a at_m (disk.since honest) stays_run
 
   -- what the disk has is sound as it was
   pub alone_held : OnDisk M k (forced_of k) m
@@ -282,21 +301,57 @@ module _ {S D : Type 0} (state : S → State) (has : S → Mounted → List Plac
   spared : IsSound k.mounted.volume.layout k.windows k.changes (forced_of k) (M.now m).image
   spared = (disk.exit honest k stood).sound
 
-  unanswered : (why : Fault) → EndsAtOnce why → IsAlone M command k a m (Err (Stopped why))
-  unanswered why once = record {
+  unanswered : own ≡ (volume_of k).layout → (why : Fault) → EndsAtOnce why → IsAlone M command k a m (Err (Stopped why))
+  unanswered keeps why once = record {
     mets = [];
     goes = λ t le. tt;
     moments = before (blank ∷ []);
+    says = says_run (volume_of k).layout (inl keeps);
     rooted = quiet_before (volume_of k).layout;
     ends = record { once = once; said = disk.quiet honest; spared = λ is. spared; held = held_none M k (forced_of k) m alone_held.each };
   }
 
   -- it was not answered
-  pub alone_fault : (why : Fault) → (why ≡ Ends.WornOut → is_worn (state v) ≡ false) → Does state has command v w k (M.now a) (M.now m) (Err why) → IsAlone M command k a m (Err (Stopped why))
-  alone_fault (Ends.Device s) unworn does = unanswered (Ends.Device s) tt
-  alone_fault Ends.Memory unworn does = unanswered Ends.Memory tt
-  alone_fault Ends.WornOut unworn does = absurd (let worn = does.0.worn in let not_so = unworn refl in cc (not_so, worn))
-  alone_fault why unworn does = absurd does
+  pub alone_fault : own ≡ (volume_of k).layout → (why : Fault) → (why ≡ Ends.WornOut → is_worn (state v) ≡ false) → Does state has command v w k (M.now a) (M.now m) (Err why) → IsAlone M command k a m (Err (Stopped why))
+  alone_fault keeps (Ends.Device s) unworn does = unanswered keeps (Ends.Device s) tt
+  alone_fault keeps Ends.Memory unworn does = unanswered keeps Ends.Memory tt
+  alone_fault keeps Ends.WornOut unworn does = absurd (let worn = does.0.worn in let not_so = unworn refl in cc (not_so, worn))
+  alone_fault keeps why unworn does = absurd does
+
+  -- nor was one that would give the volume another layout: a root may say that already
+  module _ (met : Meeting) (may : MayMeet (M.now a).image (M.now m).image (session_in idle) plain met) (quiet : may_wear_out command ≡ false) where
+    abbrev turn_met : Turn
+    turn_met = turn_by (errand_alone command) (session_in idle) plain met
+
+    goes_met : (t : ℕ) → t ≤ M.moment a → Goes (in_runs k.windows) (M.left_since m t) Anything (errand_alone command) (M.now a).said (M.now a).image (session_in idle) (met ∷ []) (plain ∷ [])
+    goes_met t le =
+        let late = (disk.any_moment honest).later in
+        (
+          (M.now m).image,
+          record {
+            kept = stood.disk.described.kept;
+            tells = mounted_tells k.mounted k.windows k.changes (forced_of k) (M.now a).image stood.disk;
+            unworn = λ wears worn. cc (quiet, wears);
+            exit = record { moment = M.now m; passed = at_m.history.sooner t (M.moment m) (M.now m) (omega (arith, le, late)) at_m.here; image = refl; so_far = disk.quiet honest };
+            may = may;
+          },
+          tt,
+        )
+
+    pub alone_undone : own ≡ (answer_in met (session_in idle) plain).1.volume.layout → changes_in (turn_met ∷ []) ≡ [] → (why : Fault) → EndsAtOnce why → IsAlone M command k a m (Err (Stopped why))
+    alone_undone behind unchanged why once = record {
+      mets = met ∷ [];
+      goes = goes_met;
+      moments = before (turn_met ∷ []);
+      says = says_run (answer_in met (session_in idle) plain).1.volume.layout (inl behind);
+      rooted = quiet_before (answer_in met (session_in idle) plain).1.volume.layout;
+      ends = record {
+        once = once;
+        said = disk.quiet honest;
+        spared = λ is. spared;
+        held = λ c left. subst (λ (h : List Change). IsSound k.mounted.volume.layout k.windows (k.changes ++ h) (forced_of k) c.image) (sym unchanged) (held_none M k (forced_of k) m alone_held.each c left);
+      };
+    }
 
   module _ (after : Known) (reply : Reply) (is : IsAnswered command (state v) k after (M.now a).image (M.now m).image reply) (stands : Stands state has w after (M.now m)) where
     abbrev later : Seated
@@ -396,10 +451,15 @@ module _ {S D : Type 0} (state : S → State) (has : S → Mounted → List Plac
         held = λ x left. sound_as (λ (h : List Change). forced_of k) x.image (c.1.held x left);
       }
 
-      pub alone_closed_as : (r : Result ℕ Halt) → (r ≡ Err (Stopped Ends.Memory) → b ≡ m) → IfOk r (λ status. status ≡ reply_status reply) → ClosesAndSaysBy (volume_of after).layout M n (forced_of k) (reply_alone reply) m b (unit_of r) → IsAlone M command k a b r
-      alone_closed_as r undone gives c = record {
+      says_behind : LeavesOnly M.moment M.left_since m b (λ c. SaysEither (volume_of after).layout n c.image) → LeavesOnly M.moment M.left_since m b (λ c. SaysEither out.volume.layout k c.image)
+      says_behind run = subst (λ (x : Session). LeavesOnly M.moment M.left_since m b (λ c. SaysEither x.volume.layout k c.image)) session_same
+          (leaves_more M.moment M.left_since m b (λ c. SaysEither (volume_of after).layout n c.image) (λ c. SaysEither (volume_of after).layout k c.image) (λ c says l there is. ⊎_elim (λ e. inl e) (λ e. inr (e ∙ layout)) (says l there is)) run)
+
+      pub alone_closed_as : (own ≡ (volume_of after).layout) ⊎ (own ≡ k.mounted.volume.layout) → (r : Result ℕ Halt) → (r ≡ Err (Stopped Ends.Memory) → b ≡ m) → IfOk r (λ status. status ≡ reply_status reply) → ClosesAndSaysBy (volume_of after).layout M n (forced_of k) (reply_alone reply) m b (unit_of r) → IsAlone M command k a b r
+      alone_closed_as turns r undone gives c = record {
         mets = is_in.met ∷ [];
         goes = goes;
+        says = then_on M.moment M.left_since a m b (λ x. SaysEither out.volume.layout k x.image) (subst (λ (x : Session). LeavesOnly M.moment M.left_since a m (λ c. SaysEither x.volume.layout k c.image)) session_same (says_run (volume_of after).layout turns)) (says_behind c.says);
         moments = then_on M.moment (stops M) a m b (InRun k (forced_of k) (turn ∷ []) (M.now a)) (before (turn ∷ []))
             (leaves_more M.moment (stops M) m b (InClose (volume_of after).layout n (forced_of k) (reply_alone reply) (M.now m)) (InRun k (forced_of k) (turn ∷ []) (M.now a)) on_close c.moments);
         rooted = then_on M.moment (stops M) a m b (SaysRooted out.volume.layout k (M.now a)) (quiet_before out.volume.layout)
@@ -434,5 +494,5 @@ module _ {S D : Type 0} (state : S → State) (has : S → Mounted → List Plac
             (sound_more k.mounted.volume.layout k.windows k.changes turn.changes (forced_of k) c.image (alone_held.each c left))));
       }
 
-      pub alone_answered : (r : Result ℕ Halt) → (r ≡ Err (Stopped Ends.Memory) → b ≡ m) → IfOk r (λ status. status ≡ reply_status reply) → ClosesAndSays M after (forced_of k) (reply_alone reply) m b (unit_of r) → IsAlone M command k a b r
-      alone_answered = alone_closed_as after layout_same is_in.windows changes_same refl
+      pub alone_answered : own ≡ k.mounted.volume.layout → (r : Result ℕ Halt) → (r ≡ Err (Stopped Ends.Memory) → b ≡ m) → IfOk r (λ status. status ≡ reply_status reply) → ClosesAndSays M after (forced_of k) (reply_alone reply) m b (unit_of r) → IsAlone M command k a b r
+      alone_answered keeps = alone_closed_as after layout_same is_in.windows changes_same refl (inr keeps)

@@ -52,6 +52,7 @@ use Rattle.volume_turns.specs.Turns.{Carries, KeepsCalls, InRun, OnDisk, RunsFro
 use Rattle.volume_turns.proofs.ReadLaws.{finds_earlier, some_earlier}
 use Rattle.volume_turns.proofs.SeatLaws.{seat_wears}
 use Rattle.volume_turns.proofs.TurnLaws.{in_saying_at, in_unsaid, in_behind, enough_from, said_before, said_more, said_nothing, stays_held, stays_stops, worn_state, state_worn}
+use Rattle.volume_turns.proofs.StaysLaws.{mounted_stays}
 
 pub picks_earlier : (may : ℕ → Bool) (i j k : Image) → IsWorn may i j → (all found : List (Key × ℕ)) → Picks j k all found → Picks i k all found
 picks_earlier may i j k worn all found picks = picks_longer Any i j k k (λ s any whole. (whole.0, worn_whole may i j s whole.0 worn whole.1)) (λ s any hurt. hurt) all found (anything all) picks
@@ -382,7 +383,7 @@ module _ {S D : Type 0} (state : S → State) (has : S → Mounted → List Plac
         mets = [];
         goes = λ t le. tt;
         moments = λ rest. stays_stops M (known_of k) f a a at at (λ t left le was. was) (started M.moment M.left_since a (M.now a) (StaysSoundFor (known_of k) (M.now a)) at.only
-            (record { sound = mounted_sound k.mounted k.windows k.changes (forced_of (known_of k)) (M.now a).image now.stands.disk; windows = refl; said = refl })) held rest;
+            (mounted_stays (known_of k) (M.now a) (M.now a) now.stands.disk refl refl)) held rest;
         ends = (refl, record { after = k; is = refl; windows = refl; changes = sym (append-nil k.changes); said = sym (append-nil (M.now a).said); open_windows = refl; layout = refl; told = f; least = omega arith; forced = λ any. absurd (cc any); held = held; stands = now });
       }
 

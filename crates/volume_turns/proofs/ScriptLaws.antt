@@ -12,7 +12,6 @@ use Rattle.sector_disk.proofs.Moments.{leaves_more, started, then_on}
 use Rattle.sector_disk.proofs.Wear.{worn_trans}
 use Rattle.fsd_files.specs.Disk.{in_runs}
 use Rattle.fsd_sound.specs.Mounted.{Mounted}
-use Rattle.fsd_sound.proofs.MountedLaws.{mounted_sound}
 use Rattle.fsd_texts.specs.declared.script_command.ScriptCommand.{ScriptCommand}
 use Rattle.fsd_texts.specs.declared.end.End.{End as ScriptEnd}
 use Rattle.fsd_texts.specs.declared.fault.Fault.{Fault}
@@ -39,6 +38,7 @@ use Rattle.volume_turns.proofs.RunLaws.{follows_then, runs_nil, runs_stop, runs_
 use Rattle.volume_turns.proofs.SeatLaws.{seat_wears}
 use Rattle.volume_turns.proofs.TurnLaws.{said_nothing, stays_held, stays_stops}
 use Rattle.volume_turns.proofs.CountLaws.{unheard_on}
+use Rattle.volume_turns.proofs.StaysLaws.{mounted_stays}
 
 -- ---- a read in front of a run
 
@@ -82,7 +82,7 @@ module _ {S D : Type 0} (state : S → State) (has : S → Mounted → List Plac
     stays_so : (old left : Moment) → Ages from old → Wears old left → StaysSoundFor (known_of k) old left
     stays_so old left aged w =
         let now = seat_wears state has wears v k from left short (ages_on from old left aged w) stood in
-        record { sound = mounted_sound k.mounted k.windows k.changes (forced_of (known_of k)) left.image now.stands.disk; windows = w.windows; said = w.said }
+        mounted_stays (known_of k) old left now.stands.disk w.windows w.said
 
   module _ (v : S × List Client) (a m : D) (trust : M.honest m → M.honest a) (timed : (x : D) → M.honest x → IsTimed M x) (worn : M.honest m → Wears (M.now a) (M.now m)) (read : M.honest m → LeavesOnly M.moment M.left_since a m (Wears (M.now a)))
       (since : M.honest m → Since M a m) (short : M.honest m → (from : Moment) → Ages from (M.now a) → AreShort from.windows) where
@@ -149,7 +149,7 @@ module _ {S D : Type 0} (state : S → State) (has : S → Mounted → List Plac
         mets = [];
         goes = λ t le. tt;
         moments = λ rest. stays_stops M (known_of k) f a a at at (λ t left le was. was) (started M.moment M.left_since a (M.now a) (StaysSoundFor (known_of k) (M.now a)) at.only
-            (record { sound = mounted_sound k.mounted k.windows k.changes (forced_of (known_of k)) (M.now a).image now.stands.disk; windows = refl; said = refl })) held rest;
+            (mounted_stays (known_of k) (M.now a) (M.now a) now.stands.disk refl refl)) held rest;
         ends = (tt, said_nothing M (known_of k) f Ends.Memory a a at held refl refl);
       }
 

@@ -17,7 +17,7 @@ use Rattle.volume_contract.specs.Order.{Comes, Force, Heal, IsLookUp, KeepsRefus
 use Rattle.volume_contract.specs.State.{Known, State}
 use Rattle.scrub.specs.declared.whole.Healed.{Healed}
 use Rattle.scrub.specs.Looking.{AreDamaged}
-use Rattle.scrub.specs.Scrub.{EndsScrub, LeavesScrubbed, scrub_steps}
+use Rattle.scrub.specs.Scrub.{EndsScrub, LeavesScrubbed, heal_writes, scrub_steps}
 use Rattle.volume_turns.specs.Commands.{HasDamaged, IsStatusFrom}
 use Rattle.volume_turns.specs.Numbers.{GoesUp}
 use Rattle.volume_turns.specs.Steps.{Does, Stays, ended_by}
@@ -25,6 +25,7 @@ use Rattle.volume_turns.proofs.AnsweringLaws.{data_inside}
 use Rattle.volume_turns.proofs.NumberLaws.{goes_by, keeps_goes, one_force}
 use Rattle.volume_turns.proofs.OrderLaws.{starts_up}
 use Rattle.volume_turns.proofs.StatusLaws.{device_looks, loss_looks}
+use Rattle.volume_turns.proofs.StaysLaws.{sound_stays}
 
 -- ---- what it refuses
 
@@ -76,7 +77,7 @@ all_damaged l i room (x ∷ found) damaged = ((data_inside l x.1 (length i) dama
 
 module _ {S : Type 0} (state : S → State) (has : S → Mounted → List Placed → Type 0) where
   pub scrub_stays : (s : S) (old left : Moment) → LeavesScrubbed state has s old left → Stays state has s old left
-  scrub_stays s old left leaves k stands = let l = leaves k stands in record { sound = l.sound; windows = l.windows; said = l.said }
+  scrub_stays s old left leaves k stands = sound_stays k old left (heal_writes k) (leaves k stands)
 
   pub scrub_does : (old new : S) (k : Known) (before now : Moment) (found : List (Key × ℕ)) (why : Refusal) → (let r : Result Healed Refusal = Err why in EndsScrub state has k new before now found r) → Does state has Word.Scrub old new k before now (ended_by why)
   scrub_does old new k before now found (Why.Device s) ends = tt

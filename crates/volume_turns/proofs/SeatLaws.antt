@@ -102,6 +102,7 @@ module _ (k : Known) (o : OpenParts) (f : ℕ) (text : List ℕ) where
     pub closes_as : (r : Result (Unit {0}) Halt) → ClosesAndSays M (with_opened k o) f text a b r → ClosesAndSays M k f text a b r
     closes_as r x = record {
       moments = leaves_more M.moment (stops M) a b (InClose k.mounted.volume.layout (with_opened k o) f text (M.now a)) (InClose k.mounted.volume.layout k f text (M.now a)) (in_close_as (M.now a)) x.moments;
+      says = x.says;
       ends = ends_as r x.ends;
     }
 

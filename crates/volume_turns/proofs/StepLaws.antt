@@ -17,13 +17,13 @@ use Rattle.fsd_texts.specs.declared.command.Command.{Command}
 use Rattle.fsd_texts.specs.declared.command.Command.TheVariants as Word
 use Rattle.fsd_runs.specs.Commands.{answer, changes_of, MayFind, may_wear_out}
 use Rattle.sector_disk.specs.Machine.{Moment, Wears}
-use Rattle.fsd_sound.proofs.MountedLaws.{mounted_sound}
 use Rattle.fsd_sound.specs.Mounted.{Mounted}
 use Rattle.volume_contract.specs.Ends.{EndsRefused, EndsForce, Answers, device_of}
 use Rattle.volume_contract.specs.declared.files.Forced.{Forced}
 use Rattle.volume_contract.specs.State.{State, Fits, Known, volume_of, forced_of, Stands, Leaves, is_worn}
 use Rattle.scrub.specs.Walk.{IsFromOutside}
 use Rattle.volume_turns.specs.Steps.{Does, Heals, IsAnswered, IsRefusedWorn, Stays, device_by, ended_by, read_ended_by}
+use Rattle.volume_turns.proofs.StaysLaws.{mounted_stays, sound_stays}
 
 -- the fault that is told is the one that was counted
 pub same_device : (why : Refusal) → ((s : ℕ) → why ≡ Why.Down s → ⊥) → device_of why ≡ device_by (ended_by why)
@@ -39,7 +39,7 @@ same_read_device key why up = refl
 
 module _ {S : Type 0} (state : S → State) (has : S → Mounted → List Placed → Type 0) where
   pub less_touched : (s : S) (may : ℕ → Bool) (old left : Moment) → Leaves state has s may old left → Stays state has s old left
-  less_touched s may old left leaves k stands = let l = leaves k stands in record { sound = l.sound; windows = l.windows; said = l.said }
+  less_touched s may old left leaves k stands = sound_stays k old left may (leaves k stands)
 
   module _ (command : Command) (old new : S) (k : Known) (before now : Moment) (outcome : Met → Outcome)
       (same : (met : Met) → answer met (volume_of k) command ≡ outcome met)
@@ -85,11 +85,7 @@ module _ {S : Type 0} (state : S → State) (has : S → Mounted → List Placed
 
   -- wear leaves the disk sound
   pub wear_stays : (s : S) (old left : Moment) → ((k : Known) → Stands state has s k old → Stands state has s k left) → Wears old left → Stays state has s old left
-  wear_stays s old left wears worn k stands = record {
-    sound = let at = wears k stands in mounted_sound k.mounted k.windows k.changes (forced_of k) left.image at.disk;
-    windows = worn.windows;
-    said = worn.said;
-  }
+  wear_stays s old left wears worn k stands = mounted_stays k old left (wears k stands).disk worn.windows worn.said
 
 -- what the volume counts is what its state tells
 pub counts_are : (s : State) (m : Mounted) → Fits s m → (free waiting pages versions : ℕ) → free ≡ total s.free → waiting ≡ length s.waiting → pages ≡ length s.free_pages → versions ≡ s.versions

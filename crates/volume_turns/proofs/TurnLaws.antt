@@ -29,7 +29,7 @@ use Rattle.fsd_runs.specs.Errands.{Turn}
 use Rattle.fsd_runs.specs.Leaves.{SaysNext}
 use Rattle.fsd_runs.specs.Runs.{IsWornOut, changes_in, forced_in, said_in, last_count}
 use Rattle.volume_contract.specs.State.{State, Known, volume_of, forced_of, Stands, is_worn}
-use Rattle.volume_turns.specs.Steps.{StaysSoundFor}
+use Rattle.volume_turns.specs.Steps.{StaysSaying}
 use Rattle.volume_turns.specs.Once.{InClose, Unclosed}
 use Rattle.volume_turns.specs.Turns.{Carries, InRun, OnDisk, Said, Undone}
 
@@ -132,7 +132,7 @@ in_before_at k f turns old left windows said n least sound = record {
 }
 
 -- before anything is said
-pub in_before : (k : Known) (f : ℕ) (turns : List Turn) (old left : Moment) → f ≤ forced_of k → StaysSoundFor k old left → InRun k f turns old left
+pub in_before : {own : Layout} (k : Known) (f : ℕ) (turns : List Turn) (old left : Moment) → f ≤ forced_of k → StaysSaying own k old left → InRun k f turns old left
 in_before k f turns old left most stays = in_before_at k f turns old left stays.windows stays.said (forced_of k) most stays.sound
 
 -- none of some turns was done
@@ -150,18 +150,18 @@ module _ {D : Type 0} (M : Ghosts D) where
   now_held m P timed held = held (M.now m) (timed.history.sooner (M.now m).synced (M.moment m) (M.now m) (let x = timed.history.synced (M.moment m) (M.now m) timed.here in let at = timed.dated in omega (arith, x, at)) timed.here)
 
   -- a call that leaves the disk sound as it was
-  module _ (k : Known) (f : ℕ) (a m : D) (at_a : IsTimed M a) (at_m : IsTimed M m) (since : Since M a m) (run : LeavesOnly M.moment M.left_since a m (StaysSoundFor k (M.now a))) (disk : OnDisk M k f a) where
+  module _ {own : Layout} (k : Known) (f : ℕ) (a m : D) (at_a : IsTimed M a) (at_m : IsTimed M m) (since : Since M a m) (run : LeavesOnly M.moment M.left_since a m (StaysSaying own k (M.now a))) (disk : OnDisk M k f a) where
     abbrev IsSoundAs : Moment → Type 0
     IsSoundAs c = IsSound k.mounted.volume.layout k.windows k.changes f c.image
 
-    sound_so : (c : Moment) → StaysSoundFor k (M.now a) c → IsSoundAs c
+    sound_so : (c : Moment) → StaysSaying own k (M.now a) c → IsSoundAs c
     sound_so c stays = sound_fewer k.mounted.volume.layout k.windows k.changes f (forced_of k) c.image disk.most stays.sound
 
     pub stays_held : OnDisk M k f m
-    stays_held = record { most = disk.most; each = held_by M a m (StaysSoundFor k (M.now a)) IsSoundAs at_a at_m since run disk.each IsSoundAs (λ c s. s) sound_so }
+    stays_held = record { most = disk.most; each = held_by M a m (StaysSaying own k (M.now a)) IsSoundAs at_a at_m since run disk.each IsSoundAs (λ c s. s) sound_so }
 
     pub stays_stops : (turns : List Turn) → StopsOnly M a m (InRun k f turns (M.now a))
-    stays_stops turns = stops_by M a m (StaysSoundFor k (M.now a)) IsSoundAs at_a at_m since run disk.each (InRun k f turns (M.now a))
+    stays_stops turns = stops_by M a m (StaysSaying own k (M.now a)) IsSoundAs at_a at_m since run disk.each (InRun k f turns (M.now a))
         (λ c stays. in_before k f turns (M.now a) c disk.most stays)
         (λ last shown stays left sooner lately either. in_before_at k f turns (M.now a) (shows_of shown last) stays.windows stays.said f (omega arith) (⊎_elim (λ was. was) (sound_so shown) either))
 

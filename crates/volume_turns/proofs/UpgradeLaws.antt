@@ -25,14 +25,15 @@ use Rattle.fsd_files.specs.Volume.{Volume}
 use Rattle.fsd_sound.specs.Mounted.{Mounted, telling_of}
 use Rattle.fsd_sound.specs.Writes.{force_writes}
 use Rattle.fsd_sound.specs.Shown.{told}
-use Rattle.fsd_sound.specs.Sound.{IsRootAt, IsSound, SaysTurned, weak_of}
+use Rattle.fsd_sound.specs.Sound.{IsSound, Says, SaysTurned, weak_of}
 use Rattle.fsd_table.specs.Table.{told_in}
+use Rattle.fsd_sound.proofs.SaidLaws.{own_says}
 use Rattle.fsd_sound.proofs.TurnedLaws.{shown_turned}
 use Rattle.fsd_runs.specs.Commands.{reply_alone}
 use Rattle.fsd_texts.specs.declared.command.Command.TheVariants as Word
 use Rattle.fsd_texts.specs.declared.fault.Fault.{Fault}
 use Rattle.fsd_texts.specs.declared.fault.Fault.TheVariants as Ends
-use Rattle.volume_contract.specs.Order.{IsDeviceIn, KeepsRefused, Roots, Test, Through, is_root, layout_is, upgrade_steps, with_three}
+use Rattle.volume_contract.specs.Order.{IsDeviceIn, KeepsRefused, Roots, Test, Through, is_idle, is_root, layout_is, upgrade_steps, with_three}
 use Rattle.volume_contract.specs.State.{Ages, IsNew, Known, Stands, State, downs_for, forced_of, none_open, volume_of}
 use Rattle.volume_contract.specs.Upgrade.{EndsUpgrade, RootsStand, is_fresh, upgraded_known}
 use Rattle.volume_turns.specs.declared.turns.Halt.{Halt}
@@ -40,13 +41,13 @@ use Rattle.volume_turns.specs.declared.turns.Halt.TheVariants.{Fault as Stopped}
 use Rattle.volume_turns.specs.Answering.{MayAnswer, AnswersAlone, SaysBy}
 use Rattle.volume_turns.specs.Once.{IsAlone, unit_of}
 use Rattle.scrub.specs.Telling.{AreOfPage}
-use Rattle.volume_turns.specs.Steps.{Does, IsToldOn, Stays, ended_by}
+use Rattle.volume_turns.specs.Steps.{Does, IsToldOn, StaysBy, ended_by}
 use Rattle.volume_turns.specs.Turns.{OnDisk, SaysAll, Unsaid, UttersBehind}
 use Rattle.volume_turns.specs.Upgrade.{EndsState, is_upgraded}
 use Rattle.volume_turns.proofs.AnsweringLaws.{alone_closed, closed_by}
 use Rattle.volume_turns.proofs.NumberLaws.{goes_none}
 use Rattle.volume_turns.proofs.LongerLaws.{Wrote}
-use Rattle.volume_turns.proofs.RelaidLaws.{relaid_alone, relaid_sound}
+use Rattle.volume_turns.proofs.RelaidLaws.{relaid_alone, relaid_sound, relaid_undone}
 use Rattle.volume_turns.proofs.CallLaws.{met_none}
 
 -- ---- a volume that was just mounted
@@ -74,15 +75,18 @@ new_fresh s new =
 abbrev IsDone : State → State → Refusal → Type 0
 IsDone s t why = (why ≡ Why.LayoutIs 2) × (s.layout.kind ≡ Three) × (t ≡ s)
 
--- a write of a root has failed there
-abbrev FailsRoots : State → State → Refusal → Type 0
-FailsRoots s t why = (place : ℕ) × (why ≡ Why.Device place) × (t ≡ record s { down = Some place })
+-- it had layout 1, and a write of a root has failed there
+abbrev FailsFrom : Kind → State → State → Refusal → Type 0
+FailsFrom kind s t why = (place : ℕ) × (why ≡ Why.Device place) × (kind ≡ Two) × (t ≡ record s { down = Some place })
 
-device_fails : (s t : State) (why : Refusal) → IsDeviceIn is_root why → t ≡ record s { down = downs_for why } → FailsRoots s t why
-device_fails s t (Why.Device place) is fails = (place, refl, fails)
+abbrev FailsRoots : State → State → Refusal → Type 0
+FailsRoots s t why = FailsFrom s.layout.kind s t why
+
+device_fails : (s t : State) (why : Refusal) → IsDeviceIn is_root why → t ≡ record s { down = downs_for why } → FailsFrom Two s t why
+device_fails s t (Why.Device place) is fails = (place, refl, refl, fails)
 device_fails s t why is fails = absurd is
 
-kind_kept : (s t : State) (kind : Kind) (why : Refusal) → KeepsRefused (Test (layout_is s kind) ∷ Roots ∷ []) why s t → ((why ≡ Why.LayoutIs 2) × (kind ≡ Three) × (t ≡ s)) ⊎ FailsRoots s t why
+kind_kept : (s t : State) (kind : Kind) (why : Refusal) → KeepsRefused (Test (layout_is s kind) ∷ Roots ∷ []) why s t → ((why ≡ Why.LayoutIs 2) × (kind ≡ Three) × (t ≡ s)) ⊎ FailsFrom kind s t why
 kind_kept s t Two why (inl here) = absurd (cc here.0)
 kind_kept s t Two why (inr (passes, roots)) = inr (device_fails s t why roots.0 roots.1)
 kind_kept s t Three why (inl here) = inl (cc here.0, refl, here.1)
@@ -91,6 +95,12 @@ kind_kept s t Three why (inr (passes, later)) = absurd (cc passes)
 pub upgrade_kept : (s t : State) → s.down ≡ None → (why : Refusal) → KeepsRefused (upgrade_steps s) why s t → IsDone s t why ⊎ FailsRoots s t why
 upgrade_kept s t up why (inl here) = let not_down : None ≡ Some why = subst (λ (o : Option ℕ). option_map Why.Down o ≡ Some why) up here.0 in absurd (cc not_down)
 upgrade_kept s t up why (inr (passes, later)) = kind_kept s t s.layout.kind why later
+
+-- by a test, before anything is done
+pub upgrade_idle : (s : State) → s.down ≡ None → s.layout.kind ≡ Three → IsTrue (is_idle (upgrade_steps s))
+upgrade_idle s up three =
+    subst (λ (kind : Kind). IsTrue (is_idle (Test (option_map Why.Down s.down) ∷ Test (layout_is s kind) ∷ Roots ∷ []))) (sym three)
+    (subst (λ (o : Option ℕ). IsTrue (is_idle (Test (option_map Why.Down o) ∷ Test (layout_is s Three) ∷ Roots ∷ []))) (sym up) refl)
 
 -- where it is not, it had layout 1
 pub upgrade_through : (s : State) → Through (upgrade_steps s) → s.layout.kind ≡ Two
@@ -109,13 +119,9 @@ pub ends_upgraded : (answer : Reply) → is_upgraded answer ≡ true → answer 
 ends_upgraded Said.Upgraded is = refl
 ends_upgraded answer is = absurd (cc is)
 
--- the mount is not told as worn out
-pub ends_unworn : (s t : State) (fault : Fault) → EndsState s t (Err fault) → fault ≡ Ends.WornOut → ⊥
-ends_unworn s t fault ends is = (let r : Fault → Result Reply Fault = λ x. Err x in subst (λ (x : Fault). EndsState s t (r x)) is ends)
-
 -- so it is told
 pub upgrade_refused : (P : Result Reply Fault → Type 0) (s t : State) (why : Refusal) (r : Result Reply Fault) → r ≡ ended_by why → IsDone s t why ⊎ FailsRoots s t why
-    → (IsDone s t why → P (Ok (Said.Refused (Why.LayoutIs 2)))) → ((place : ℕ) → why ≡ Why.Device place → t ≡ record s { down = Some place } → P (Err (Ends.Device place))) → P r
+    → (IsDone s t why → P (Ok (Said.Refused (Why.LayoutIs 2)))) → ((place : ℕ) → why ≡ Why.Device place → (s.layout.kind ≡ Two) × (t ≡ record s { down = Some place }) → P (Err (Ends.Device place))) → P r
 upgrade_refused P s t why r is (inl done) layout device = subst P (sym (is ∙ ap ended_by done.0)) (layout done)
 upgrade_refused P s t why r is (inr fails) layout device = subst P (sym (is ∙ ap ended_by fails.1)) (device fails.0 fails.1 fails.2)
 
@@ -149,17 +155,12 @@ module _ {S : Type 0} (state : S → State) (has : S → Mounted → List Placed
 
 -- ---- one that is done, by itself
 
--- a root that stands is the new one
-root_says : (l : Layout) (weak : Sectors) (i : Image) (s : ℕ) (bytes : List ℕ) → sector_at i s ≡ Whole bytes → Has weak i (root_bytes l) s → sector_at i s ≡ Whole (root_bytes l)
-root_says l weak i s bytes whole (inl stands) = stands
-root_says l weak i s bytes whole (inr hurt) = absurd (let damaged : Whole bytes ≡ Damaged = sym whole ∙ hurt.1 in cc damaged)
-
 module _ {S D : Type 0} (state : S → State) (has : S → Mounted → List Placed → Type 0) (M : Ghosts D)
     (wears : (s : S) (k : Known) (old new : Moment) → AreShort old.windows → Ages old new → Stands state has s k old → Stands state has s k new)
     (short : (m : D) → M.honest m → AreShort (M.now m).windows)
     (timed : (m : D) → M.honest m → IsTimed M m)
     (v w : S) (a m b : D) (k : Known) (none : k.opened ≡ none_open) (forced : (volume_of k).unforced ≡ 0) (stood : Stands state has v k (M.now a)) (on : OnDisk M k (forced_of k) a)
-    (disk : Wrote M (Stays state has v) a m) (honest : M.honest m) (since : Since M m b)
+    (disk : Wrote M (StaysBy (with_kind Three) state has v) a m) (honest : M.honest m) (since : Since M m b)
     (two : (state v).layout.kind ≡ Two) (three : state w ≡ with_three (state v)) (roots : RootsStand (state w) (M.now m)) (does : Does state has Word.Upgrade v w k (M.now a) (M.now m) (Ok Said.Upgraded)) where
   abbrev l : Layout
   l = (volume_of k).layout
@@ -168,7 +169,7 @@ module _ {S D : Type 0} (state : S → State) (has : S → Mounted → List Plac
   after = does.0
 
   sound : IsSound l k.windows k.changes (length k.changes) (M.now m).image
-  sound = relaid_sound state has M v a m k forced stood disk honest
+  sound = relaid_sound state has M v a m k forced stood (with_kind Three) disk honest
 
   -- it is the volume with the layout turned
   turned_is : with_kind Three l ≡ turned l
@@ -180,13 +181,11 @@ module _ {S D : Type 0} (state : S → State) (has : S → Mounted → List Plac
   same_layout : (volume_of after).layout ≡ turned l
   same_layout = ap (λ (x : Volume). x.layout) (sym volume_is) ∙ turned_is
 
-  says_at : (s : ℕ) → IsRootAt l sound.readable.roots.other (M.now m).image s → Has (open_damage (M.now m).windows) (M.now m).image (root_bytes (state w).layout) s → sector_at (M.now m).image s ≡ Whole (root_bytes (turned l))
-  says_at s root stands =
-      let same : (state w).layout ≡ turned l = ap (λ (x : State). x.layout) three ∙ ap (λ (x : Layout). with_kind Three x) (sym stood.fits.layout) ∙ turned_is in
-      root_says (state w).layout (open_damage (M.now m).windows) (M.now m).image s root.0 root.1 stands ∙ ap (λ (x : Layout). Whole (root_bytes x)) same
-
+  -- a root that stands is the new one
   says : SaysTurned l (M.now m).image
-  says = ⊎_elim (λ root. inl (says_at 0 root roots.first)) (λ root. inr (says_at 4 root roots.second)) sound.readable.roots.some
+  says =
+      let same : (state w).layout ≡ turned l = ap (λ (x : State). x.layout) three ∙ ap (λ (x : Layout). with_kind Three x) (sym stood.fits.layout) ∙ turned_is in
+      subst (λ (x : Layout). Says x (M.now m).image) same (own_says (state w).layout l sound.readable.roots.other (open_damage (M.now m).windows) (M.now m).image (roots.first, roots.second) sound.readable.roots.some)
 
   -- nothing is logged, so its table is told in either form
   alike : (j : Image) → IsWorn (weak_of k.windows) (M.now m).image j → told (volume_of after).layout j ≡ told l j
@@ -195,8 +194,16 @@ module _ {S D : Type 0} (state : S → State) (has : S → Mounted → List Plac
   pub upgraded_alone : (text : List ℕ) → text ≡ reply_alone Said.Upgraded → M.honest b → LeavesOnly M.moment M.left_since m b (UttersBehind true text (M.now m)) → (r : Result ℕ Halt) → (r ≡ Err (Stopped Ends.Memory) → b ≡ m) → IfOk r (λ status. status ≡ 0)
       → OnOk (unit_of r) (SaysAll text (M.now m) (M.now b)) → OnOk (unit_of r) ((M.now m).time ≤ (M.now b).synced) → IfErr (unit_of r) (λ end. Unsaid (M.now m) (M.now b) end) → IsAlone M Word.Upgrade k a b r
   upgraded_alone text is honest_b run r undone gives all synced unsaid =
-      relaid_alone state has M v a m k forced stood disk honest wears short timed Word.Upgrade (λ x. refl) Said.Upgraded w b none on since does (ap (λ (x : Volume). x.unforced) (sym volume_is) ∙ forced) (ap telling_of volume_is) alike
+      relaid_alone state has M v a m k forced stood (with_kind Three) disk honest wears short timed Word.Upgrade (λ x. refl) Said.Upgraded w b none on since does (ap (λ (x : Volume). x.layout) volume_is) (ap (λ (x : Volume). x.unforced) (sym volume_is) ∙ forced) (ap telling_of volume_is) alike
       text is honest_b run r undone gives all synced unsaid
+
+-- ---- one that failed
+
+pub upgrade_failed : {S D : Type 0} (state : S → State) (has : S → Mounted → List Placed → Type 0) (M : Ghosts D) → ((s : S) (k : Known) (old new : Moment) → AreShort old.windows → Ages old new → Stands state has s k old → Stands state has s k new) → ((m : D) → M.honest m → AreShort (M.now m).windows) → ((m : D) → M.honest m → IsTimed M m)
+    → (v w : S) (a m : D) (k : Known) → k.opened ≡ none_open → Stands state has v k (M.now a) → OnDisk M k (forced_of k) a → Wrote M (StaysBy (with_kind Three) state has v) a m → M.honest m → (fault : Fault) → EndsState (state v) (state w) (Err fault) → IsAlone M Word.Upgrade k a m (Err (Stopped fault))
+upgrade_failed state has M wears short timed v w a m k none stood on disk honest (Ends.Device place) ends =
+    relaid_undone state has M wears short timed Word.Upgrade (λ x. refl) refl v w a m k none stood on (with_kind Three) disk honest tt Said.Upgraded (answered_by state has v w k (M.now a) (M.now m) stood Two ends.0) (Ends.Device place) tt
+upgrade_failed state has M wears short timed v w a m k none stood on disk honest fault ends = absurd ends
 
 -- what it says and writes, whatever the image
 pub upgraded_answers : (s t : State) (a m b : Moment) → m.windows ≡ a.windows → m.said ≡ a.said → MayAnswer Word.Upgrade s t a m (Ok Said.Upgraded) → Ages m b → (r : Result ℕ Halt) → IfOk r (λ status. status ≡ 0) → SaysBy (reply_alone Said.Upgraded) m b (unit_of r)

@@ -16,15 +16,16 @@ use Rattle.fsd_files.specs.Disk.{Image, in_runs}
 use Rattle.fsd_files.specs.Files.{Change}
 use Rattle.fsd_files.specs.Volume.{Volume}
 use Rattle.fsd_sound.specs.Laid.{HasOwnRoots}
-use Rattle.fsd_sound.specs.Mounted.{Mounted, telling_of}
+use Rattle.fsd_sound.specs.Mounted.{IsMounted, Mounted, telling_of}
 use Rattle.fsd_sound.specs.Mounting.{device_of_mount}
 use Rattle.fsd_sound.specs.Shown.{told}
-use Rattle.fsd_sound.specs.Sound.{EndIn, IsPrefixOf, IsSound, weak_of}
+use Rattle.fsd_sound.specs.Sound.{EachSaid, EndIn, IsPrefixOf, IsSound, Says, SaysNoMore, weak_of}
 use Rattle.fsd_sound.specs.Windows.{IsNamedSince}
 use Rattle.fsd_sound.proofs.WindowLaws.{named_on}
 use Rattle.fsd_sound.specs.declared.fault.MountFault.{MountFault}
 use Rattle.fsd_sound.specs.declared.fault.MountFault.TheVariants as Refused
 use Rattle.fsd_sound.proofs.MoreLaws.{sound_more, wear_sound}
+use Rattle.fsd_sound.proofs.MountedLaws.{fresh_mounted}
 use Rattle.fsd_sound.proofs.WindowLaws.{last_snoc}
 use Rattle.fsd_texts.specs.declared.fault.Fault.{Fault}
 use Rattle.fsd_texts.specs.declared.fault.Fault.TheVariants as Ends
@@ -32,8 +33,7 @@ use Rattle.fsd_texts.specs.Text.{fault_text}
 use Rattle.fsd_runs.specs.declared.request.Request.{Request}
 use Rattle.fsd_runs.specs.declared.request.Request.TheVariants.{One, Put, Restore}
 use Rattle.fsd_runs.specs.Errands.{ByFault, Cut, Turn, blank, errand_of, fault_status}
-use Rattle.fsd_runs.specs.Leaves.{CutCause, IfOne, IsBrokenOff, IsOutside, IsReplied, IsSpent, IsUnderWay, IsUndone, IsUnsaid, LeavesBy, LeavesRoots, Left, LeftBefore, LeftByTurns, SaysFault, Unbegun, Whatever}
-use Rattle.fsd_runs.proofs.LeaveLaws.{one_more}
+use Rattle.fsd_runs.specs.Leaves.{CutCause, IfOne, IsBrokenOff, IsOutside, IsReplied, IsSpent, IsUnderWay, IsUndone, IsRooted, IsUnsaid, LeavesBy, LeavesRoots, Left, LeftBefore, LeftByTurns, SaysFault, Unbegun, Whatever}
 use Rattle.fsd_runs.specs.Sessions.{session_over}
 use Rattle.fsd_runs.specs.Runs.{Goes, IsCutAt, IsThrough, Course, GoesSo, answered, changes_in, errand_in, run_end, run_status, run_turns, said_in, turns_of}
 use Rattle.volume_contract.specs.Mount.{EndsBefore, EndsSettled, Excuses, ExcusesOf, MountsAs, SettledDisk, SoundAbout, SoundBefore, SoundSince}
@@ -41,13 +41,16 @@ use Rattle.volume_contract.specs.State.{State, Known, Stands, forced_of, none_op
 use Rattle.volume_turns.specs.declared.turns.Halt.TheVariants.{Fault as Stopped}
 use Rattle.volume_turns.specs.Line.{EndsWith, is_unsaid}
 use Rattle.volume_turns.specs.Once.{end_by_mount}
+use Rattle.volume_turns.specs.Steps.{SaysEither}
 use Rattle.volume_turns.specs.Turns.{EndsAtOnce, InRun, OnDisk, SaysAll, FaultTold, Undone}
 use Rattle.volume_turns.specs.Whole.{GoesUnsaid, Halted, RunsOut, SaysOut, UnderWay}
 use Rattle.volume_turns.proofs.HaltLaws.{broken_ends, broken_moments, held_behind, stops_saying}
 use Rattle.volume_turns.proofs.LineLaws.{at_once_ends, excused}
-use Rattle.volume_turns.proofs.OneLaws.{fault_line}
-use Rattle.volume_turns.proofs.MountLaws.{before_left, known_length, known_sound, nothing_said, own_roots, run_left, run_under_way, run_undone, since_left, sound_to, starts}
+use Rattle.volume_turns.proofs.OneLaws.{fault_line, line_says}
+use Rattle.volume_turns.proofs.MountLaws.{as_known, before_left, known_length, known_sound, nothing_said, own_roots, run_left, run_under_way, run_undone, since_left, sound_to, starts}
+use Rattle.volume_turns.proofs.RootedLaws.{leaves_roots, mounted_says}
 use Rattle.volume_turns.proofs.RunLaws.{told_fault}
+use Rattle.volume_turns.proofs.StaysLaws.{own_either}
 use Rattle.volume_turns.proofs.TurnLaws.{in_before_at, none_done, now_held}
 use Rattle.volume_turns.proofs.StatusLaws.{same_device}
 
@@ -66,6 +69,10 @@ broken_on_said a b request Over Now Way To turns old mid new status quiet on hel
   undone = λ is. on x.says.whole new.image (x.undone is);
   unread = λ is. ((x.unread is).0, on x.says.whole new.image (x.unread is).1);
 }
+
+one_both : (request : Request) {P Q R : Type 0} → (P → Q → R) → IfOne request P → IfOne request Q → IfOne request R
+one_both (One command) both p q = both p q
+one_both request both p q = tt
 
 one_so : (request : Request) {P : Type 0} → P → IfOne request P
 one_so (One command) fact = fact
@@ -104,6 +111,7 @@ runs_on M request input rest a m uses faults k c b status r = record {
   may = r.may;
   cause = cause_on a m (M.report b) uses faults r.cut input rest r.cause;
   finishes = record { mets = r.finishes.mets; ahead = r.finishes.ahead; goes = r.finishes.goes; moments = r.finishes.moments; ends = ended r.finishes.ends };
+  says = r.says;
   rooted = r.rooted;
   so = r.so;
 }
@@ -172,7 +180,7 @@ settled_disk M l windows run h f n prefix k a m s quiet at_m at late settled = r
 
 module _ {D : Type 0} (M : Ghosts D) (request : Request) (input rest : List ℕ) (l : Layout) (windows : List WeakRun) (run : WeakRun) (h : List Change) (f n : ℕ) (prefix : IsPrefixOf h f n) (k : Known) (a m b : D) (s : SettledDisk l windows run h n k (M.now a) (M.now m)) (quiet : (M.now m).said ≡ (M.now a).said)
     (at_a : IsTimed M a) (at_m : IsTimed M m) (mounts : Since M a m) (held : IsHeld M a (λ c. IsSound l windows h f c.image)) (at : ℕ) (mount : LeavesOnly M.moment M.left_since a m (SoundAbout at l windows run h f n (M.now a))) (settled_at : (left : Moment) → M.left_since m at left → SoundSince l windows run h n (M.now a) left)
-    (named : IsNamedSince (M.left_since m) (M.moment a) (Some run)) (since : Since M m b) (now : M.left_since b (M.moment m) (M.now b)) (status : ℕ) (r : RunsOut M request input rest (M.report a) k m b status) where
+    (named : IsNamedSince (M.left_since m) (M.moment a) (Some run)) (at_b : IsTimed M b) (since : Since M m b) (now : M.left_since b (M.moment m) (M.now b)) (status : ℕ) (r : RunsOut M request input rest (M.report a) k m b status) where
   abbrev turns : List Turn
   turns = turns_of (errand_in request input r.cut (volume_of k)) r.finishes.mets (session_over (volume_of k))
 
@@ -208,21 +216,41 @@ module _ {D : Type 0} (M : Ghosts D) (request : Request) (input rest : List ℕ)
   own_as : (i : Image) → HasOwnRoots (run_end run_is).layout (weak_of k.windows) i → HasOwnRoots (run_end run_is).layout (weak_of (windows ++ run ∷ [])) i
   own_as i own = subst (λ (x : List WeakRun). HasOwnRoots (run_end run_is).layout (weak_of x) i) s.known own
 
+  -- what its roots say
+  abbrev own : Layout
+  own = (run_end run_is).layout
+
+  mount_says : LeavesOnly M.moment M.left_since a m (λ c. SaysNoMore (M.now a).image c.image)
+  mount_says = leaves_more M.moment M.left_since a m (SoundAbout at l windows run h f n (M.now a)) (λ c. SaysNoMore (M.now a).image c.image) about mount
+    where
+      about : (c : Moment) → SoundAbout at l windows run h f n (M.now a) c → SaysNoMore (M.now a).image c.image
+      about c (inl x) = x.0.says
+      about c (inr x) = x.0.says
+
+  run_says : LeavesOnly M.moment M.left_since m b (λ c. SaysEither own k c.image) → LeavesOnly M.moment M.left_since a b (λ c. EachSaid c.image (λ x. (x ≡ own) ⊎ Says x (M.now a).image))
+  run_says says = mounted_says M own a k m b at_m mount_says (as_known l windows run h f n prefix k (M.now a) (M.now m) s quiet) says
+
   -- what is said, and where both roots stand
   abbrev Rooted : Moment → Type 0
-  Rooted left = LeavesRoots (run_end run_is).layout (weak_of (windows ++ run ∷ [])) (M.now a) left
+  Rooted left = IsRooted own (weak_of (windows ++ run ∷ [])) (M.now a) left
 
   mount_quiet : StopsOnly M a m Rooted
   mount_quiet = settled_stops M l windows h f a m at_a at_m mounts held run n at mount settled_at Rooted
       (λ left present said sound. inl ([], nothing_said, said ∙ sym (append-nil (M.now a).said))) (λ left settled said sound. inl ([], nothing_said, said ∙ sym (append-nil (M.now a).said)))
 
-  roots_on : (left : Moment) → LeavesRoots (run_end run_is).layout (weak_of k.windows) (M.now m) left → Rooted left
+  roots_on : (left : Moment) → IsRooted own (weak_of k.windows) (M.now m) left → Rooted left
   roots_on left (inl (part, fault, said)) = inl (part, fault, said ∙ ap (λ (x : List ℕ). x ++ part) quiet)
   roots_on left (inr own) = inr (own_as left.image own)
 
-  rooted_stops : StopsOnly M m b (LeavesRoots (run_end run_is).layout (weak_of k.windows) (M.now m)) → StopsOnly M a b Rooted
+  rooted_stops : StopsOnly M m b (IsRooted own (weak_of k.windows) (M.now m)) → StopsOnly M a b Rooted
   rooted_stops on_line = then_on M.moment (stops M) a m b Rooted mount_quiet
-      (leaves_more M.moment (stops M) m b (LeavesRoots (run_end run_is).layout (weak_of k.windows) (M.now m)) Rooted roots_on on_line)
+      (leaves_more M.moment (stops M) m b (IsRooted own (weak_of k.windows) (M.now m)) Rooted roots_on on_line)
+
+  since_a : Since M a b
+  since_a t c le was = let later = mount.later in since t c (omega (arith, le, later)) (mounts t c le was)
+
+  roots_left : LeavesOnly M.moment M.left_since m b (λ c. SaysEither own k c.image) → StopsOnly M m b (IsRooted own (weak_of k.windows) (M.now m)) → StopsOnly M a b (LeavesRoots own (weak_of (windows ++ run ∷ [])) (M.left_since a (M.now a).synced) (M.now a))
+  roots_left says rooted = leaves_roots M own a b at_a at_b since_a (weak_of (windows ++ run ∷ [])) (run_says says) (rooted_stops rooted)
 
   replied : SaysOut M (errand_in request input r.cut (volume_of k)) k r.finishes.mets m b status → IsReplied l windows run h n turns (run_status run_is) (run_end run_is) (IsHeld M b) (M.now a) (M.now b) status
   replied out =
@@ -248,7 +276,7 @@ module _ {D : Type 0} (M : Ghosts D) (request : Request) (input rest : List ℕ)
   ended (inr (inr x)) = inr (inr (broken_on_said (M.report a) (M.report b) request (Undone k (forced_of k) turns) (IsUndone l (windows ++ run ∷ []) (take n h) n turns) (UnderWay M k turns b) (IsUnderWay l (windows ++ run ∷ []) (take n h) n turns (IsHeld M b)) turns (M.now a) (M.now m) (M.now b) status quiet
       (λ whole i u. run_undone l windows run h f n prefix k (M.now a) (M.now m) s quiet turns whole i u) (λ whole u. run_under_way l windows run h f n prefix k (M.now a) (M.now m) s quiet M turns b whole u) x))
 
-  pub mounted_run : LeavesBy request input rest l windows h f (M.left_since b) (stops M b) (M.moment a) (StopsOnly M a b) (IsHeld M b) (M.report a) (M.report b) (M.now a) (M.now b) status
+  pub mounted_run : LeavesBy request input rest l windows h f (M.left_since b) (stops M b) (M.moment a) (M.left_since a (M.now a).synced) (StopsOnly M a b) (IsHeld M b) (M.report a) (M.report b) (M.now a) (M.now b) status
   mounted_run = inr (record {
     count = n;
     prefix = prefix;
@@ -268,7 +296,7 @@ module _ {D : Type 0} (M : Ghosts D) (request : Request) (input rest : List ℕ)
         (leaves_more M.moment (stops M) m b (InRun k (forced_of k) turns (M.now m)) (Left l windows run h f n turns (M.now a)) (λ left x. inr (on left x)) r.finishes.moments);
     later = λ left stop. on left (r.finishes.moments.each left stop);
     exit = on (M.now b) (r.finishes.moments.each (M.now b) stop_now);
-    rooted = one_more request rooted_stops r.rooted;
+    rooted = one_both request roots_left r.says r.rooted;
     ends = ended r.finishes.ends;
   })
 
@@ -357,7 +385,7 @@ module _ {S D : Type 0} (state : S → State) (has : S → Mounted → List Plac
     by_end (inl six) = inr (inl (unsaid six))
     by_end (inr (gives, all)) = by_fault fault u.why refl gives all
 
-    unmounted_run : LeavesBy request input rest l windows h f (M.left_since b) (stops M b) (M.moment a) (StopsOnly M a b) (IsHeld M b) (M.report a) (M.report b) (M.now a) (M.now b) status
+    unmounted_run : LeavesBy request input rest l windows h f (M.left_since b) (stops M b) (M.moment a) (M.left_since a (M.now a).synced) (StopsOnly M a b) (IsHeld M b) (M.report a) (M.report b) (M.now a) (M.now b) status
     unmounted_run = inl (record {
       moments = then_on M.moment (stops M) a m b (LeftBefore l windows h f (M.now a)) (before_stops M l windows h f a m at_a at_m mounts held u.moments) line_stops;
       exit = line_exit (says.exit honest);
@@ -410,6 +438,9 @@ module _ {S D : Type 0} (state : S → State) (has : S → Mounted → List Plac
         subst (λ (x : List WeakRun). EndIn (M.now m).windows x) (sym e.settled.known)
         (record { last = last_snoc None windows e.next ∙ sym present; some = subst (λ (x : Option WeakRun). IsSome x) (sym present) refl })
 
+    fresh : IsMounted k.mounted k.windows k.changes (length k.changes) (M.now m).image
+    fresh = fresh_mounted k.mounted k.windows k.changes (M.now m).image e.settled.fresh
+
     once : EndsAtOnce why
     once = at_once fault e.ends
 
@@ -430,26 +461,27 @@ module _ {S D : Type 0} (state : S → State) (has : S → Mounted → List Plac
         ends = inr (broken_ends M request (M.report a) k all_turns m m b moments why halted short ends_k at_m at_b once told_is status says honest ended);
       };
       so = unsaid (M.left_since b (M.moment m)) (M.now m).said (volume_of k) (M.now m).image fault_only;
+      says = one_so request (line_says M k (volume_of k).layout m b (fault_text why) (own_either (volume_of k).layout k (M.now m).image fresh.over.shows.readable.roots.planned fresh.over.own.roots) (says.any_moment honest));
       rooted = one_so request (fault_line M k (volume_of k).layout m m b why (at_once_ends why once) refl at_m at_b (says.since honest) (says.any_moment honest));
     }
 
-    settled_run : LeavesBy request input rest l windows h f (M.left_since b) (stops M b) (M.moment a) (StopsOnly M a b) (IsHeld M b) (M.report a) (M.report b) (M.now a) (M.now b) status
-    settled_run = mounted_run M request input rest l windows e.next h f e.count e.prefix k a m b e.settled quiet at_a at_m mounts held e.at e.moments e.since e.named (says.since honest) now status runs
+    settled_run : LeavesBy request input rest l windows h f (M.left_since b) (stops M b) (M.moment a) (M.left_since a (M.now a).synced) (StopsOnly M a b) (IsHeld M b) (M.report a) (M.report b) (M.now a) (M.now b) status
+    settled_run = mounted_run M request input rest l windows e.next h f e.count e.prefix k a m b e.settled quiet at_a at_m mounts held e.at e.moments e.since e.named at_b (says.since honest) now status runs
 
   pub refused_run : (now : M.left_since b (M.moment m) (M.now b))
       (some : (v : Volume) → IsSome (slice_get (turns_of (errand_of request input v) [] (session_over v)) 0)) (unsaid : GoesUnsaid request) → MountsAs state has l windows h f (M.left_since m) (M.moment a) (λ P. LeavesOnly M.moment M.left_since a m P) (M.now a) (M.now m) (Err fault)
-      → LeavesBy request input rest l windows h f (M.left_since b) (stops M b) (M.moment a) (StopsOnly M a b) (IsHeld M b) (M.report a) (M.report b) (M.now a) (M.now b) status
+      → LeavesBy request input rest l windows h f (M.left_since b) (stops M b) (M.moment a) (M.left_since a (M.now a).synced) (StopsOnly M a b) (IsHeld M b) (M.report a) (M.report b) (M.now a) (M.now b) status
   refused_run now some unsaid (inl u) = unmounted_run u
   refused_run now some unsaid (inr e) = settled_run now some unsaid e
 
 -- what a request does over a volume that was just mounted
 pub joined_run : {S D : Type 0} (state : S → State) (has : S → Mounted → List Placed → Type 0) (M : Ghosts D) (request : Request) (input rest : List ℕ) (l : Layout) (windows : List WeakRun) (h : List Change) (f : ℕ) (a m b : D) (v : S)
-    → (M.now m).said ≡ (M.now a).said → UsesDisk (M.report a) (M.report m) → DiskFaults None (M.report a) (M.report m) → IsTimed M a → IsTimed M m → Since M a m → Since M m b → IsHeld M a (λ c. IsSound l windows h f c.image) → (M.moment m ≤ M.moment b → M.left_since b (M.moment m) (M.now b)) → (status : ℕ)
+    → (M.now m).said ≡ (M.now a).said → UsesDisk (M.report a) (M.report m) → DiskFaults None (M.report a) (M.report m) → IsTimed M a → IsTimed M m → IsTimed M b → Since M a m → Since M m b → IsHeld M a (λ c. IsSound l windows h f c.image) → (M.moment m ≤ M.moment b → M.left_since b (M.moment m) (M.now b)) → (status : ℕ)
     → MountsAs state has l windows h f (M.left_since m) (M.moment a) (λ P. LeavesOnly M.moment M.left_since a m P) (M.now a) (M.now m) (Ok v)
     → ((k : Known) → (volume_of k).unforced ≡ 0 → k.opened ≡ none_open → Stands state has v k (M.now m) → OnDisk M k (forced_of k) m → RunsOut M request input rest (M.report m) k m b status)
-    → LeavesBy request input rest l windows h f (M.left_since b) (stops M b) (M.moment a) (StopsOnly M a b) (IsHeld M b) (M.report a) (M.report b) (M.now a) (M.now b) status
-joined_run state has M request input rest l windows h f a m b v quiet uses faults at_a at_m mounts since held now status (inl u) does = absurd u.why
-joined_run state has M request input rest l windows h f a m b v quiet uses faults at_a at_m mounts since held now status (inr e) does =
+    → LeavesBy request input rest l windows h f (M.left_since b) (stops M b) (M.moment a) (M.left_since a (M.now a).synced) (StopsOnly M a b) (IsHeld M b) (M.report a) (M.report b) (M.now a) (M.now b) status
+joined_run state has M request input rest l windows h f a m b v quiet uses faults at_a at_m at_b mounts since held now status (inl u) does = absurd u.why
+joined_run state has M request input rest l windows h f a m b v quiet uses faults at_a at_m at_b mounts since held now status (inr e) does =
     let k = e.known in
     let r = does k e.settled.fresh.unforced e.settled.opened e.ends (settled_disk M l windows e.next h f e.count e.prefix k a m e.settled quiet at_m e.at e.held e.since) in
-    mounted_run M request input rest l windows e.next h f e.count e.prefix k a m b e.settled quiet at_a at_m mounts held e.at e.moments e.since e.named since (now r.finishes.moments.later) status (runs_on M request input rest (M.report a) (M.report m) uses faults k m b status r)
+    mounted_run M request input rest l windows e.next h f e.count e.prefix k a m b e.settled quiet at_a at_m mounts held e.at e.moments e.since e.named at_b since (now r.finishes.moments.later) status (runs_on M request input rest (M.report a) (M.report m) uses faults k m b status r)

@@ -26,12 +26,13 @@ pub record GrowsTo (sectors free : ℕ) (s t : State) : Type 0 where
   pub counted : free ≡ total t.free
   pub few : free < 2 ^ 32
 
--- The volume has so many sectors; or this kept it from that, and all is as it was; or the disk has failed, and it is down.
+-- The volume has so many sectors; or this kept it from that, and all is as it was; or nothing did, the disk has
+-- failed, and it is down.
 abbrev pub EndsGrown : (sectors : ℕ) → State → State → Result Reply Fault → Type 0
 EndsGrown sectors s t (Ok (Said.Grown n free)) = (n ≡ sectors) × GrowsTo sectors free s t
 EndsGrown sectors s t (Ok (Said.Refused why)) = (grow_fault s.layout sectors ≡ Some why) × (t ≡ s)
 EndsGrown sectors s t (Ok answer) = ⊥
-EndsGrown sectors s t (Err (Ends.Device place)) = t ≡ record s { down = Some place }
+EndsGrown sectors s t (Err (Ends.Device place)) = (grow_fault s.layout sectors ≡ None) × (t ≡ record s { down = Some place })
 EndsGrown sectors s t (Err fault) = ⊥
 
 -- Of any image: it may be answered so, so much is written, and this is why.

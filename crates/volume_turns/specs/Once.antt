@@ -6,7 +6,7 @@ use Rattle.fsd_bytes.specs.declared.refusal.Refusal.TheVariants as Why
 use Rattle.sector_disk.specs.declared.machine.Machine.{Ghosts}
 use Rattle.sector_disk.specs.Image.{AllWorn}
 use Rattle.sector_disk.specs.Calls.{IsHeld, StopsOnly}
-use Rattle.sector_disk.specs.Machine.{Moment}
+use Rattle.sector_disk.specs.Machine.{LeavesOnly, Moment}
 use Rattle.fsd_files.specs.Desk.{Session}
 use Rattle.fsd_files.specs.Disk.{Image, in_runs}
 use Rattle.fsd_files.specs.Volume.{Volume}
@@ -57,7 +57,6 @@ pub record InClose (own : Layout) (k : Known) (f : ℕ) (text : List ℕ) (old l
   pub heard : ℕ
   pub said : left.said ≡ old.said ++ take heard text
   pub all : 0 < heard → forced ≡ length k.changes
-  pub says : SaysEither own k left.image
   pub roots : 0 < heard → HasOwnRoots own (weak_of k.windows) left.image
 
 -- All is said. The disk's own table is the volume's, however it wears, and both roots are those of this layout, whichever
@@ -85,6 +84,7 @@ EndsClosedBy own M k f text a b (Err Output) = ⊤
 
 pub record ClosesAndSaysBy {D : Type 0} (own : Layout) (M : Ghosts D) (k : Known) (f : ℕ) (text : List ℕ) (a b : D) (result : Result (Unit {0}) Halt) : Type 0 where
   pub moments : StopsOnly M a b (InClose own k f text (M.now a))
+  pub says : LeavesOnly M.moment M.left_since a b (λ c. SaysEither own k c.image)
   pub ends : EndsClosedBy own M k f text a b result
 
 -- and these are of the volume's own
@@ -147,14 +147,18 @@ EndsAlone M c k mets a b (Err Output) = ⊤
 abbrev pub Anything : Volume → Image → Type 0
 Anything v i = ⊤
 
--- Each layout that a root says is this one, or the volume's. Nothing was said yet, or both roots are those of this layout.
-pub record SaysRooted (own : Layout) (k : Known) (old left : Moment) : Type 0 where
-  pub says : SaysEither own k left.image
-  pub replied : (left.said ≡ old.said) ⊎ HasOwnRoots own (weak_of k.windows) left.image
+-- Nothing was said yet, or both roots are those of this layout.
+abbrev pub SaysRooted : Layout → Known → (old left : Moment) → Type 0
+SaysRooted own k old left = (left.said ≡ old.said) ⊎ HasOwnRoots own (weak_of k.windows) left.image
+
+-- the layout of the volume behind the command, where it meets this
+abbrev pub layout_alone : Command → List Meeting → Session → Layout
+layout_alone c mets s = (session_behind mets s (Plain c ∷ [])).volume.layout
 
 pub record IsAlone {D : Type 0} (M : Ghosts D) (c : Command) (k : Known) (a b : D) (result : Result ℕ Halt) : Type 0 where
   pub mets : List Meeting
   pub goes : (t : ℕ) → t ≤ M.moment a → Goes (in_runs k.windows) (M.left_since b t) Anything (errand_alone c) (M.now a).said (M.now a).image (session_over (volume_of k)) mets (Plain c ∷ [])
   pub moments : StopsOnly M a b (InRun k (forced_of k) (turns_of (errand_alone c) mets (session_over (volume_of k))) (M.now a))
-  pub rooted : StopsOnly M a b (SaysRooted (session_behind mets (session_over (volume_of k)) (Plain c ∷ [])).volume.layout k (M.now a))
+  pub says : LeavesOnly M.moment M.left_since a b (λ x. SaysEither (layout_alone c mets (session_over (volume_of k))) k x.image)
+  pub rooted : StopsOnly M a b (SaysRooted (layout_alone c mets (session_over (volume_of k))) k (M.now a))
   pub ends : EndsAlone M c k mets a b result

@@ -19,7 +19,7 @@ use Rattle.fsd_runs.specs.Commands.{answer, changes_of, MayFind, may_wear_out}
 use Rattle.sector_disk.specs.Damage.{AreLost}
 use Rattle.sector_disk.specs.Machine.{Moment}
 use Rattle.fsd_sound.specs.Mounted.{Mounted}
-use Rattle.fsd_sound.specs.Sound.{IsSound, Says}
+use Rattle.fsd_sound.specs.Sound.{EachSaid, IsSound}
 use Rattle.scrub.specs.Scrub.{IsScrubbed}
 use Rattle.scrub.specs.Telling.{IsHomeOfPage}
 use Rattle.volume_contract.specs.State.{State, Known, volume_of, forced_of, Stands, is_worn}
@@ -100,7 +100,7 @@ device_by (Err fault) = device_told fault
 
 -- each layout that a root says is this one, or the volume's
 abbrev pub SaysEither : (own : Layout) → Known → Image → Type 0
-SaysEither own k i = (l : Layout) → Says l i → (l ≡ own) ⊎ (l ≡ k.mounted.volume.layout)
+SaysEither own k i = EachSaid i (λ l. (l ≡ own) ⊎ (l ≡ k.mounted.volume.layout))
 
 -- The disk is sound as it was. Each layout that a root says is this one, or the volume's.
 pub record StaysSaying (own : Layout) (k : Known) (old left : Moment) : Type 0 where
@@ -113,6 +113,11 @@ pub record StaysSaying (own : Layout) (k : Known) (old left : Moment) : Type 0 w
 abbrev pub StaysSoundFor : Known → (old left : Moment) → Type 0
 StaysSoundFor k old left = StaysSaying k.mounted.volume.layout k old left
 
+-- by a command that gives the volume the layout that comes of its own so
+abbrev pub StaysBy : (turn : Layout → Layout) → {S : Type 0} → (state : S → State) → (has : S → Mounted → List Placed → Type 0) → S → Moment → Moment → Type 0
+StaysBy turn state has s old left = (k : Known) → Stands state has s k old → StaysSaying (turn k.mounted.volume.layout) k old left
+
+-- and by one that keeps it
 abbrev pub Stays : {S : Type 0} → (state : S → State) → (has : S → Mounted → List Placed → Type 0) → S → Moment → Moment → Type 0
 Stays state has s old left = (k : Known) → Stands state has s k old → StaysSoundFor k old left
 

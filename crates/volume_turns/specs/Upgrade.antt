@@ -19,12 +19,12 @@ abbrev pub is_upgraded : Reply → Bool
 is_upgraded Said.Upgraded = true
 is_upgraded answer = false
 
--- The volume had layout 1 and has layout 2; or it had that, and all is as it was; or a write of a root has failed, and it
--- is down.
+-- The volume had layout 1 and has layout 2; or it had that, and all is as it was; or it had layout 1, a write of a root has
+-- failed, and it is down.
 abbrev pub EndsState : State → State → Result Reply Fault → Type 0
 EndsState s t (Ok Said.Upgraded) = (s.layout.kind ≡ Two) × (t ≡ with_three s)
 EndsState s t (Ok answer) = (answer ≡ Said.Refused (Why.LayoutIs 2)) × (s.layout.kind ≡ Three) × (t ≡ s)
-EndsState s t (Err (Ends.Device place)) = t ≡ record s { down = Some place }
+EndsState s t (Err (Ends.Device place)) = (s.layout.kind ≡ Two) × (t ≡ record s { down = Some place })
 EndsState s t (Err fault) = ⊥
 
 -- Of any image: it may be answered so, so much is written, and this is why.

@@ -1,9 +1,10 @@
 -- Runs over a mounted volume to their end: the last line is said, or that of the fault that ended them.
 use Rattle.std.specs.Prelude.{◌≡◌, ◌⊎◌, ⊤, ℕ, suc, ◌+◌, ◌≤◌, List, [], ◌++◌, length, take, None, IsSome, IsTrue, slice_get}
+use Rattle.volume_layout.specs.declared.layout.Layout.{Layout}
 use Rattle.std.specs.List.{list_any}
 use Rattle.sector_disk.specs.declared.machine.Machine.{Ghosts}
 use Rattle.sector_disk.specs.Calls.{IsHeld, StopsOnly}
-use Rattle.sector_disk.specs.Machine.{Moment, Report}
+use Rattle.sector_disk.specs.Machine.{LeavesOnly, Moment, Report}
 use Rattle.fsd_files.specs.Disk.{Image, in_runs}
 use Rattle.fsd_files.specs.Desk.{Session}
 use Rattle.fsd_files.specs.Volume.{Volume}
@@ -12,11 +13,12 @@ use Rattle.fsd_texts.specs.declared.fault.Fault.{Fault}
 use Rattle.fsd_texts.specs.declared.fault.Fault.TheVariants as Ends
 use Rattle.fsd_runs.specs.declared.request.Request.{Request}
 use Rattle.fsd_runs.specs.Errands.{Cut, Errand, MayCut, Turn, errand_of}
-use Rattle.fsd_runs.specs.Leaves.{CutCause, IfOne, IsBrokenOff, IsUnsaid, LeavesRoots, SaysFault}
+use Rattle.fsd_runs.specs.Leaves.{CutCause, IfOne, IsBrokenOff, IsRooted, IsUnsaid, SaysFault}
 use Rattle.fsd_runs.specs.Runs.{Goes, GoesSo, IsCutAt, IsCutBefore, answered, session_behind, changes_in, errand_in, forced_in, said_in, turns_of}
 use Rattle.fsd_runs.specs.Sessions.{Meeting, session_over}
 use Rattle.volume_contract.specs.State.{Known, volume_of, forced_of}
 use Rattle.volume_turns.specs.Once.{IsDone}
+use Rattle.volume_turns.specs.Steps.{SaysEither}
 use Rattle.volume_turns.specs.Turns.{InRun, Undone}
 
 -- ---- between two turns
@@ -69,12 +71,17 @@ pub record Finishes {D : Type 0} (M : Ghosts D) (request : Request) (e : Errand)
 abbrev pub GoesUnsaid : Request → Type 1
 GoesUnsaid request = (Passed : Moment → Type 0) (base : List ℕ) (v : Volume) (i : Image) → ((c : Moment) → Passed c → (part : List ℕ) × SaysFault part × (c.said ≡ base ++ part)) → GoesSo request None Passed base v i []
 
--- A request over its mounted volume. Where one command by itself has begun to say its reply, both roots are those of the
--- layout behind it.
+-- the layout of the volume behind the commands of an errand that were begun
+abbrev pub layout_behind : Errand → Known → List Meeting → Layout
+layout_behind e k mets = (session_behind mets (session_over (volume_of k)) e.commands).volume.layout
+
+-- A request over its mounted volume. At each moment of one command by itself a root says the layout behind it, or the one
+-- that the volume had. Where it has begun to say its reply, both roots are those of the layout behind it.
 pub record RunsOut {D : Type 0} (M : Ghosts D) (request : Request) (input rest : List ℕ) (before : Report) (k : Known) (a b : D) (status : ℕ) : Type 0 where
   pub cut : Cut
   pub may : MayCut request cut
   pub cause : CutCause cut input rest before (M.report b)
   pub finishes : Finishes M request (errand_in request input cut (volume_of k)) (λ s. IsCutBefore cut s (errand_of request input (volume_of k)).commands) (IsCutAt cut) before k a b status
-  pub rooted : IfOne request (StopsOnly M a b (LeavesRoots (session_behind finishes.mets (session_over (volume_of k)) (errand_in request input cut (volume_of k)).commands).volume.layout (weak_of k.windows) (M.now a)))
+  pub says : IfOne request (LeavesOnly M.moment M.left_since a b (λ c. SaysEither (layout_behind (errand_in request input cut (volume_of k)) k finishes.mets) k c.image))
+  pub rooted : IfOne request (StopsOnly M a b (IsRooted (layout_behind (errand_in request input cut (volume_of k)) k finishes.mets) (weak_of k.windows) (M.now a)))
   pub so : GoesSo request cut (M.left_since b (M.moment a)) (M.now a).said (volume_of k) (M.now a).image (answered finishes.mets (session_over (volume_of k)) (errand_in request input cut (volume_of k)).commands)

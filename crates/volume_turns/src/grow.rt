@@ -5,6 +5,7 @@ ghost use Rattle.fsd_texts.specs.declared.command.Command.TheVariants as Word;
 ghost use Rattle.fsd_texts.specs.declared.fault.Fault.TheVariants as Ends;
 ghost use Rattle.fsd_runs.specs.Commands.{reply_alone};
 ghost use Rattle.sector_disk.specs.Calls.{GrowsDisk};
+ghost use Rattle.volume_layout.specs.Layout.{with_sectors};
 ghost use Rattle.run_table.specs.RunTable.{total};
 ghost use Rattle.volume_contract.specs.Order.{is_idle, grow_steps};
 ghost use Rattle.volume_contract.specs.State.{Known, Stands, none_open, volume_of, forced_of};
@@ -13,7 +14,7 @@ ghost use Rattle.volume_turns.specs.Answering.{AnswersAlone};
 ghost use Rattle.volume_turns.specs.Once.{IsAlone};
 ghost use Rattle.volume_turns.specs.Commands.{IsStatusFrom};
 ghost use Rattle.volume_turns.specs.Grow.{EndsGrown, TellsGrown, is_grown};
-ghost use Rattle.volume_turns.specs.Steps.{Does, IsOfCall, Stays, device_by};
+ghost use Rattle.volume_turns.specs.Steps.{Does, IsOfCall, StaysBy, device_by};
 ghost use Rattle.volume_turns.specs.Turns.{OnDisk, SpeaksBy};
 
 use crate::answer::ended_by;
@@ -30,7 +31,7 @@ use volume_contract::Files;
 fn grow<M: Machine, V: Files<M>>(v: &mut V, m: &mut M, sectors: u32) -> Result<Reply, Fault>
     requires room { (V.state v.old).layout.sectors ≤ (M.report m.old).sectors }
     requires up { (V.state v.old).down ≡ None }
-    ensures disk { GrowsDisk M.Machine (device_by result) (Stays V.state V.holds v.old) m.old m.new }
+    ensures disk { GrowsDisk M.Machine (device_by result) (StaysBy (with_sectors sectors) V.state V.holds v.old) m.old m.new }
     ensures fault { IfErr result IsOfCall }
     ensures idle { IsTrue (is_idle (grow_steps (V.state v.old) sectors)) → m.new ≡ m.old }
     ensures ends { EndsGrown sectors (V.state v.old) (V.state v.new) result }

@@ -1,5 +1,7 @@
 //! An upgrade of a volume that was just mounted, to its reply.
 ghost use Rattle.std.specs.Prelude.{◌≡◌, ◌≤◌, None, Err, IfErr, IfOk, IsTrue};
+ghost use Rattle.volume_layout.specs.declared.kind.Kind.TheVariants.{Three};
+ghost use Rattle.volume_layout.specs.Layout.{with_kind};
 ghost use Rattle.fsd_texts.specs.declared.command.Command.TheVariants as Word;
 ghost use Rattle.fsd_texts.specs.declared.fault.Fault.TheVariants as Ends;
 ghost use Rattle.fsd_runs.specs.Commands.{reply_alone};
@@ -11,7 +13,7 @@ ghost use Rattle.volume_turns.specs.declared.turns.Halt.TheVariants.{Fault as St
 ghost use Rattle.volume_turns.specs.Answering.{AnswersAlone};
 ghost use Rattle.volume_turns.specs.Once.{IsAlone};
 ghost use Rattle.volume_turns.specs.Commands.{IsStatusFrom};
-ghost use Rattle.volume_turns.specs.Steps.{Does, IsOfCall, Stays, device_by};
+ghost use Rattle.volume_turns.specs.Steps.{Does, IsOfCall, StaysBy, device_by};
 ghost use Rattle.volume_turns.specs.Turns.{OnDisk, Speaks};
 ghost use Rattle.volume_turns.specs.Upgrade.{EndsState, TellsUpgrade, is_upgraded};
 
@@ -30,7 +32,7 @@ fn upgrade<M: Machine, V: Files<M>>(v: &mut V, m: &mut M) -> Result<Reply, Fault
     requires room { (V.state v.old).layout.sectors ≤ (M.report m.old).sectors }
     requires up { (V.state v.old).down ≡ None }
     requires fresh { IsTrue (is_fresh (V.state v.old)) }
-    ensures disk { WritesDisk M.Machine (device_by result) (Stays V.state V.holds v.old) m.old m.new }
+    ensures disk { WritesDisk M.Machine (device_by result) (StaysBy (with_kind Three) V.state V.holds v.old) m.old m.new }
     ensures fault { IfErr result IsOfCall }
     ensures idle { IsTrue (is_idle (upgrade_steps (V.state v.old))) → m.new ≡ m.old }
     ensures ends { EndsState (V.state v.old) (V.state v.new) result }

@@ -15,8 +15,8 @@ returns-clause-done g c = λ nought h kept honest.
     let k = kept_again h (length h) (memory_now c.args.m) (memory_now old) made.now (kept (sym c.again-m.ensures.honest ∙ e.trust.honest honest)) in
     let one : c.in_ok-input.input.items ≡ c.args.byte ∷ [] = search rules in
     let input : (memory_ledger old).input ≡ c.args.byte ∷ [] = ap (λ (x : Ledger). x.input) made.ledger ∙ one in
-    kept_done c.args.name.now c.args.byte h (memory_now old) (memory_now new) k (memory_ledger new).input (memory_left new) (memory_stops new) (memory_calls old) (MemoryStops old new) (MemoryHeld new) (memory_report old) (memory_report new) c.run_input-status.result nought
-    (subst (λ (x : List ℕ). LeavesSaid (Put c.args.name.now None) x (memory_ledger new).input k.layout k.windows (take k.made h) k.forced (memory_left new) (memory_stops new) (memory_calls old) (MemoryStops old new) (MemoryHeld new) (memory_report old) (memory_report new) (memory_now old) (memory_now new) c.run_input-status.result) input
+    kept_done c.args.name.now c.args.byte h (memory_now old) (memory_now new) k (memory_ledger new).input (memory_left new) (memory_stops new) (memory_calls old) (memory_left old (memory_now old).synced) (MemoryStops old new) (MemoryHeld new) (memory_report old) (memory_report new) c.run_input-status.result nought
+    (subst (λ (x : List ℕ). LeavesSaid (Put c.args.name.now None) x (memory_ledger new).input k.layout k.windows (take k.made h) k.forced (memory_left new) (memory_stops new) (memory_calls old) (memory_left old (memory_now old).synced) (MemoryStops old new) (MemoryHeld new) (memory_report old) (memory_report new) (memory_now old) (memory_now new) c.run_input-status.result) input
     (e.leaves honest (record { layout = k.layout; windows = k.windows; changes = take k.made h; forced = k.forced }) k.sound (held_again h (length h) old (memory_now c.args.m).image (memory_now c.args.m).windows made.now k)))
 
 pub returns-clause-left : goal.returns-clause-left
@@ -28,6 +28,6 @@ returns-clause-left g c = λ h kept honest.
     let k = kept_again h (length h) (memory_now c.args.m) (memory_now old) made.now (kept (sym c.again-m.ensures.honest ∙ e.trust.honest honest)) in
     let one : c.in_ok-input.input.items ≡ c.args.byte ∷ [] = search rules in
     let input : (memory_ledger old).input ≡ c.args.byte ∷ [] = ap (λ (x : Ledger). x.input) made.ledger ∙ one in
-    kept_left c.args.name.now c.args.byte h (memory_now old) (memory_now new) k (memory_ledger new).input (memory_left new) (memory_stops new) (memory_calls old) (MemoryStops old new) (MemoryHeld new) (memory_report old) (memory_report new) c.run_input-status.result
-    (subst (λ (x : List ℕ). LeavesSaid (Put c.args.name.now None) x (memory_ledger new).input k.layout k.windows (take k.made h) k.forced (memory_left new) (memory_stops new) (memory_calls old) (MemoryStops old new) (MemoryHeld new) (memory_report old) (memory_report new) (memory_now old) (memory_now new) c.run_input-status.result) input
+    kept_left c.args.name.now c.args.byte h (memory_now old) (memory_now new) k (memory_ledger new).input (memory_left new) (memory_stops new) (memory_calls old) (memory_left old (memory_now old).synced) (MemoryStops old new) (MemoryHeld new) (memory_report old) (memory_report new) c.run_input-status.result
+    (subst (λ (x : List ℕ). LeavesSaid (Put c.args.name.now None) x (memory_ledger new).input k.layout k.windows (take k.made h) k.forced (memory_left new) (memory_stops new) (memory_calls old) (memory_left old (memory_now old).synced) (MemoryStops old new) (MemoryHeld new) (memory_report old) (memory_report new) (memory_now old) (memory_now new) c.run_input-status.result) input
     (e.leaves honest (record { layout = k.layout; windows = k.windows; changes = take k.made h; forced = k.forced }) k.sound (held_again h (length h) old (memory_now c.args.m).image (memory_now c.args.m).windows made.now k)))

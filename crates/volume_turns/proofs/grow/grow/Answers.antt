@@ -1,5 +1,7 @@
 use Rattle.std.proofs.Common.{ℕ, Option, refl, ap, subst}
 use Rattle.std.specs.Prelude.{IfErr, IfOk, Result, Ok}
+use Rattle.volume_layout.specs.Layout.{with_sectors}
+use Rattle.fsd_files.specs.Disk.{TouchesLonger}
 use Rattle.fsd_texts.specs.declared.command.Command.TheVariants as Word
 use Rattle.fsd_texts.specs.declared.fault.Fault.{Fault}
 use Rattle.sector_disk.specs.Calls.{GrowsDisk}
@@ -12,10 +14,11 @@ use Rattle.fsd_files.specs.declared.reply.Reply.TheVariants as Said
 use Rattle.volume_turns.specs.Answering.{MayAnswer}
 use Rattle.volume_turns.specs.Grow.{EndsGrown}
 use Rattle.volume_turns.specs.Reasons.{BecauseGrown}
-use Rattle.volume_turns.specs.Steps.{Does, IsOfCall, Stays, device_by}
-use Rattle.volume_turns.proofs.GrowLaws.{fits_so, grow_kept, grow_refused, grown_does, kept_does, longer_stays, may_refuse, refused_as, stands_kept}
+use Rattle.volume_turns.specs.Steps.{Does, IsOfCall, StaysBy, device_by}
+use Rattle.volume_turns.proofs.GrowLaws.{fits_so, grow_kept, grow_refused, grown_does, kept_does, may_refuse, refused_as, stands_kept}
 use Rattle.volume_turns.proofs.NumberLaws.{goes_none, goes_still}
 use Rattle.volume_turns.proofs.ReasonLaws.{refused_written}
+use Rattle.volume_turns.proofs.StaysLaws.{relaid_stays}
 use Rattle.volume_turns.proofs.grow.grow.Goals as goal
 
 -- ---- where it is done
@@ -23,7 +26,9 @@ use Rattle.volume_turns.proofs.grow.grow.Goals as goal
 pub returns-in-Ok-clause-disk : goal.returns-in-Ok-clause-disk
 returns-in-Ok-clause-disk g c =
     let V = g.V.Files in
-    grows_more c.in-Ok.ensures.disk (λ h left. longer_stays V.state V.holds c.args.sectors c.args.v.now is_root (g.M.Machine.now c.args.m.now) left)
+    let M = g.M.Machine in
+    let n = c.args.sectors in
+    grows_more c.in-Ok.ensures.disk (λ h left leaves k stands. relaid_stays k (M.now c.args.m.now) left (with_sectors n k.mounted.volume.layout) (TouchesLonger n is_root (M.now c.args.m.now) left) (leaves k stands))
 
 pub returns-in-Ok-clause-ends : goal.returns-in-Ok-clause-ends
 returns-in-Ok-clause-ends g c =
@@ -69,8 +74,9 @@ returns-in-Err-clause-disk g c =
     let t = V.state c.grow.new.self in
     let n = c.args.sectors in
     let kept = grow_kept n s t c.requires.up c.in-Err.why c.in-Err.ensures.state in
-    let disk = grows_more c.in-Err.ensures.disk (λ h left. longer_stays V.state V.holds n v is_root (g.M.Machine.now c.args.m.now) left) in
-    let by = λ (f : Option ℕ). GrowsDisk g.M.Machine f (Stays V.state V.holds v) c.args.m.now c.grow.new.m in
+    let M = g.M.Machine in
+    let disk = grows_more c.in-Err.ensures.disk (λ h left leaves k stands. relaid_stays k (M.now c.args.m.now) left (with_sectors n k.mounted.volume.layout) (TouchesLonger n is_root (M.now c.args.m.now) left) (leaves k stands)) in
+    let by = λ (f : Option ℕ). GrowsDisk M f (StaysBy (with_sectors n) V.state V.holds v) c.args.m.now c.grow.new.m in
     grow_refused (λ r. by (device_by r)) n s t c.in-Err.why c.ended_by.result c.ended_by.ensures.is kept
     (λ is. refused_as s.layout n (λ w. by (device_of w) → by (device_by {T = Reply} (Ok (Said.Refused w)))) c.in-Err.why is.0 (λ d. d) (λ most past d. d) disk) (λ place is down. subst by (ap device_of is) disk)
 
@@ -104,9 +110,9 @@ returns-in-Err-clause-tells g c =
           (λ place is down. record {
             replies = tt;
             rest = e.writes.rest h;
-            still = ap (λ (x : State). x.dirty) down;
+            still = ap (λ (x : State). x.dirty) down.1;
             worn = λ w. absurd (cc w);
-            numbers = goes_still s t (ap (λ (x : State). x.serial.count) down) (ap (λ (x : State). x.head.number) down);
+            numbers = goes_still s t (ap (λ (x : State). x.serial.count) down.1) (ap (λ (x : State). x.head.number) down.1);
             told = tt;
           });
       written = λ t. refused_written 2 (g.M.Machine.ledger c.args.m.now) (g.M.Machine.ledger c.grow.new.m) why c.ended_by.result c.ended_by.ensures.is (e.writes.counted t);

@@ -16,13 +16,13 @@ use Rattle.volume_turns.specs.Steps.{Does}
 use Rattle.volume_turns.specs.Turns.{WantsNone}
 use Rattle.volume_turns.proofs.AnsweringLaws.{alone_closed, says_so}
 use Rattle.volume_turns.proofs.LineLaws.{wants_not}
-use Rattle.volume_turns.proofs.LongerLaws.{wrote_longer}
-use Rattle.volume_turns.proofs.OnceLaws.{alone_answered, alone_fault, alone_unbegun, answered_held}
+use Rattle.volume_turns.proofs.LongerLaws.{wrote_longer, wrote_none}
+use Rattle.volume_turns.proofs.OnceLaws.{alone_answered, alone_unbegun, answered_held}
 use Rattle.volume_turns.proofs.SayLaws.{timed_by}
 use Rattle.volume_turns.proofs.StatusLaws.{status_at}
 use Rattle.volume_turns.proofs.SpeaksLaws.{grown_failed, speaks_done, speaks_ended, speaks_grown, speaks_none, speaks_text}
 use Rattle.volume_turns.proofs.ToldLaws.{unsaid_told}
-use Rattle.volume_turns.proofs.GrowLaws.{ends_grown, ends_refused, free_told, grow_idle, grow_unworn, grown_alone, grown_answers}
+use Rattle.volume_turns.proofs.GrowLaws.{ends_grown, ends_refused, free_told, grow_failed, grow_idle, grown_alone, grown_answers}
 use Rattle.volume_turns.proofs.grow.grow_alone.Goals as goal
 
 pub returns-in_default-clause-does : goal.returns-in_default-clause-does
@@ -121,8 +121,9 @@ returns-in-Ok-grow-clause-does g c h k none idle stands on =
     let reply = c.in-Ok-grow.answer in
     let layout = ap (λ (x : State). x.layout) done.2.1 in
     let timed = timed_by M g.met.M.Machine.dated g.met.M.Machine.history g.met.M.Machine.counts_now g.met.M.Machine.only_now in
-    let held = answered_held V.state V.holds M g.met.V.Files.wears (λ x honest. g.met.M.Machine.short x honest) timed (Word.Grow c.args.sectors) v w a m b k idle stands on (wrote_longer e.disk) back (close.speaks.since h) does.0 reply does.1 does.2 layout in
-    alone_answered V.state V.holds M g.met.V.Files.wears (λ x honest. g.met.M.Machine.short x honest) timed (Word.Grow c.args.sectors) v w a m b k idle stands on (wrote_longer e.disk) back (close.speaks.since h) does.0 reply does.1 does.2 layout c.close_as.result close.undone close.status
+    let disk = wrote_none V.state V.holds M v a m (e.idle (grow_idle c.args.sectors (V.state v) done.0 c.requires.up done.2.0)) (λ left honest is. g.met.M.Machine.only_now a left honest is) in
+    let held = answered_held V.state V.holds M g.met.V.Files.wears (λ x honest. g.met.M.Machine.short x honest) timed (Word.Grow c.args.sectors) v w a m b k idle stands on (λ l. l) disk back (close.speaks.since h) does.0 reply does.1 does.2 layout in
+    alone_answered V.state V.holds M g.met.V.Files.wears (λ x honest. g.met.M.Machine.short x honest) timed (Word.Grow c.args.sectors) v w a m b k idle stands on (λ l. l) disk back (close.speaks.since h) does.0 reply does.1 does.2 layout refl c.close_as.result close.undone close.status
     (subst (λ (says : Reply → List ℕ). ClosesAndSays M does.0 (forced_of k) (says reply) m b (unit_of c.close_as.result)) c.requires.says (close.closes h does.0 (forced_of k) does.2 held))
 
 pub returns-in-Ok-grow-clause-status : goal.returns-in-Ok-grow-clause-status
@@ -142,8 +143,7 @@ returns-clause-does g c h k none idle stands on =
     let w = c.grow.new.v in
     let e = c.in-Err.ensures in
     let timed = timed_by M g.met.M.Machine.dated g.met.M.Machine.history g.met.M.Machine.counts_now g.met.M.Machine.only_now in
-    alone_fault V.state V.holds M g.met.V.Files.wears (λ x honest. g.met.M.Machine.short x honest) timed (Word.Grow c.args.sectors) v w c.args.m.now c.grow.new.m c.grow.new.m k idle stands on (wrote_longer e.disk) h (λ t left le was. was)
-    c.in-Err.fault (λ worn. absurd (grow_unworn c.args.sectors (V.state v) (V.state w) c.in-Err.fault e.ends worn)) (e.done h k stands)
+    grow_failed V.state V.holds M g.met.V.Files.wears (λ x honest. g.met.M.Machine.short x honest) timed c.args.sectors v w c.args.m.now c.grow.new.m k idle stands on (wrote_longer e.disk) h c.in-Err.fault e.ends
 
 -- ---- what it asks for and keeps
 

@@ -27,8 +27,8 @@ returns-in-Ok-clause-does g c h k none idle stands on =
     let does = c.in-Ok.ensures.done back k stands in
     let reply = c.in-Ok.answer in
     let timed = timed_by M g.met.M.Machine.dated g.met.M.Machine.history g.met.M.Machine.counts_now g.met.M.Machine.only_now in
-    let held = answered_held V.state V.holds M g.met.V.Files.wears (λ x honest. g.met.M.Machine.short x honest) timed c.args.c.now v w a m b k idle stands on (wrote c.in-Ok.ensures.disk) back (c.close_as.ensures.speaks.since h) does.0 reply does.1 does.2 c.in-Ok.ensures.layout in
-    alone_answered V.state V.holds M g.met.V.Files.wears (λ x honest. g.met.M.Machine.short x honest) timed c.args.c.now v w a m b k idle stands on (wrote c.in-Ok.ensures.disk) back (c.close_as.ensures.speaks.since h) does.0 reply does.1 does.2 c.in-Ok.ensures.layout
+    let held = answered_held V.state V.holds M g.met.V.Files.wears (λ x honest. g.met.M.Machine.short x honest) timed c.args.c.now v w a m b k idle stands on (λ l. l) (wrote c.in-Ok.ensures.disk) back (c.close_as.ensures.speaks.since h) does.0 reply does.1 does.2 c.in-Ok.ensures.layout in
+    alone_answered V.state V.holds M g.met.V.Files.wears (λ x honest. g.met.M.Machine.short x honest) timed c.args.c.now v w a m b k idle stands on (λ l. l) (wrote c.in-Ok.ensures.disk) back (c.close_as.ensures.speaks.since h) does.0 reply does.1 does.2 c.in-Ok.ensures.layout refl
     c.close_as.result c.close_as.ensures.undone c.close_as.ensures.status
     (subst (λ (says : Reply → List ℕ). ClosesAndSays M does.0 (forced_of k) (says reply) m b (unit_of c.close_as.result)) c.requires.says (c.close_as.ensures.closes h does.0 (forced_of k) does.2 held))
 
@@ -37,7 +37,7 @@ returns-in-Err-clause-does g c h k none idle stands on =
     let V = g.V.Files in
     let M = g.M.Machine in
     let timed = timed_by M g.met.M.Machine.dated g.met.M.Machine.history g.met.M.Machine.counts_now g.met.M.Machine.only_now in
-    alone_fault V.state V.holds M g.met.V.Files.wears (λ m x. g.met.M.Machine.short m x) timed c.args.c.now c.args.v c.answer.new.v c.args.m.now c.answer.new.m c.answer.new.m k idle stands on (wrote c.in-Err.ensures.disk) h (λ t left le was. was)
+    alone_fault V.state V.holds M g.met.V.Files.wears (λ m x. g.met.M.Machine.short m x) timed c.args.c.now c.args.v c.answer.new.v c.args.m.now c.answer.new.m c.answer.new.m k idle stands on (λ l. l) (wrote c.in-Err.ensures.disk) h (λ t left le was. was) refl
     c.in-Err.fault (λ is. c.requires.unworn) (c.in-Err.ensures.done h k stands)
 
 pub returns-in-Ok-clause-speaks : goal.returns-in-Ok-clause-speaks

@@ -1,5 +1,8 @@
 use Rattle.std.proofs.Common.{ℕ, Option, refl, ap, subst}
 use Rattle.std.specs.Prelude.{IfOk, Result}
+use Rattle.volume_layout.specs.declared.kind.Kind.TheVariants.{Three}
+use Rattle.volume_layout.specs.Layout.{with_kind}
+use Rattle.fsd_files.specs.Disk.{Touches}
 use Rattle.fsd_texts.specs.declared.command.Command.TheVariants as Word
 use Rattle.fsd_texts.specs.declared.fault.Fault.{Fault}
 use Rattle.sector_disk.specs.Calls.{WritesDisk}
@@ -10,11 +13,11 @@ use Rattle.volume_contract.specs.State.{State}
 use Rattle.fsd_files.specs.declared.reply.Reply.{Reply}
 use Rattle.volume_turns.specs.Answering.{MayAnswer}
 use Rattle.volume_turns.specs.Reasons.{BecauseUpgraded}
-use Rattle.volume_turns.specs.Steps.{Does, Stays, device_by}
+use Rattle.volume_turns.specs.Steps.{Does, StaysBy, device_by}
 use Rattle.volume_turns.specs.Upgrade.{EndsState}
 use Rattle.volume_turns.proofs.NumberLaws.{goes_none, goes_still}
 use Rattle.volume_turns.proofs.ReasonLaws.{refused_written}
-use Rattle.volume_turns.proofs.StepLaws.{less_touched}
+use Rattle.volume_turns.proofs.StaysLaws.{relaid_stays}
 use Rattle.volume_turns.proofs.UpgradeLaws.{done_does, stands_done, upgrade_kept, upgrade_refused, upgrade_through, upgraded_does}
 use Rattle.volume_turns.proofs.upgrade.upgrade.Goals as goal
 
@@ -23,7 +26,8 @@ use Rattle.volume_turns.proofs.upgrade.upgrade.Goals as goal
 pub returns-in-Ok-clause-disk : goal.returns-in-Ok-clause-disk
 returns-in-Ok-clause-disk g c =
     let V = g.V.Files in
-    writes_more c.in-Ok.ensures.disk (λ h left. less_touched V.state V.holds c.args.v.now is_root (g.M.Machine.now c.args.m.now) left)
+    let M = g.M.Machine in
+    writes_more c.in-Ok.ensures.disk (λ h left leaves k stands. relaid_stays k (M.now c.args.m.now) left (with_kind Three k.mounted.volume.layout) (Touches is_root (M.now c.args.m.now) left) (leaves k stands))
 
 pub returns-in-Ok-clause-ends : goal.returns-in-Ok-clause-ends
 returns-in-Ok-clause-ends g c = (upgrade_through (g.V.Files.state c.args.v.now) c.in-Ok.ensures.order.follows, c.in-Ok.ensures.state)
@@ -61,8 +65,9 @@ returns-in-Err-clause-disk g c =
     let V = g.V.Files in
     let v = c.args.v.now in
     let kept = upgrade_kept (V.state v) (V.state c.upgrade.new.self) c.requires.up c.in-Err.why c.in-Err.ensures.state in
-    let disk = writes_more c.in-Err.ensures.disk (λ h left. less_touched V.state V.holds v is_root (g.M.Machine.now c.args.m.now) left) in
-    let by = λ (f : Option ℕ). WritesDisk g.M.Machine f (Stays V.state V.holds v) c.args.m.now c.upgrade.new.m in
+    let M = g.M.Machine in
+    let disk = writes_more c.in-Err.ensures.disk (λ h left leaves k stands. relaid_stays k (M.now c.args.m.now) left (with_kind Three k.mounted.volume.layout) (Touches is_root (M.now c.args.m.now) left) (leaves k stands)) in
+    let by = λ (f : Option ℕ). WritesDisk M f (StaysBy (with_kind Three) V.state V.holds v) c.args.m.now c.upgrade.new.m in
     upgrade_refused (λ r. by (device_by r)) (V.state v) (V.state c.upgrade.new.self) c.in-Err.why c.ended_by.result c.ended_by.ensures.is kept
     (λ done. subst by (ap device_of done.0) disk) (λ place is t. subst by (ap device_of is) disk)
 
@@ -87,9 +92,9 @@ returns-in-Err-clause-tells g c =
           (λ place is down. record {
             replies = tt;
             rest = e.writes.rest h;
-            still = ap (λ (x : State). x.dirty) down;
+            still = ap (λ (x : State). x.dirty) down.1;
             worn = λ is. absurd (cc is);
-            numbers = goes_still s t (ap (λ (x : State). x.serial.count) down) (ap (λ (x : State). x.head.number) down);
+            numbers = goes_still s t (ap (λ (x : State). x.serial.count) down.1) (ap (λ (x : State). x.head.number) down.1);
             told = tt;
           });
       written = λ t. refused_written 2 (g.M.Machine.ledger c.args.m.now) (g.M.Machine.ledger c.upgrade.new.m) why c.ended_by.result c.ended_by.ensures.is (e.writes.counted t);
