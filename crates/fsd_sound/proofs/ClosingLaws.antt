@@ -1,7 +1,7 @@
 -- An anchor is written once more, and says that its volume is closed: the same pages are shown. Where the map of these pages
 -- is saved before, what is saved is what they tell.
 use Rattle.std.proofs.Common.{◌≡◌, ◌≢◌, ◌⊎◌, inl, inr, ⊎_elim, ℕ, ◌+◌, ◌^◌, ◌<◌, ◌≤◌, true, List, [], ◌∷◌, length, map, take, set-set, Option, Some, None, refl, sym, ap, subst, ◌∙◌, arith}
-use Rattle.std.specs.Prelude.{Contains, IfSome, IsSome, IsTrue, nat_le, nat_lt, option_and_then}
+use Rattle.std.specs.Prelude.{IfSome, IsSome, IsTrue, nat_le, nat_lt, option_and_then}
 use Rattle.std.specs.Option.{option_or}
 use Rattle.std.specs.List.{flat_map}
 use Rattle.std.proofs.lemmas.Bool.{and_parts, leb-true}
@@ -20,7 +20,7 @@ use Rattle.fsd_formats.proofs.SpellingLaws.{anchor_is_read, closed_is_read, clos
 use Rattle.sector_disk.specs.declared.sector.Sector.{Sector}
 use Rattle.sector_disk.specs.declared.sector.Sector.TheVariants.{Whole, Damaged}
 use Rattle.sector_disk.specs.declared.sector.WeakRun.{WeakRun}
-use Rattle.sector_disk.specs.Image.{sector_at, with_sector, IsWorn}
+use Rattle.sector_disk.specs.Image.{sector_at, with_sector}
 use Rattle.fsd_log.specs.Images.{last_image}
 use Rattle.fsd_log.specs.Scan.{Placed, Walked, newer_of}
 use Rattle.fsd_files.specs.Disk.{Image, Sectors, SectorWorn, bytes_at, bytes_of, first_whole, in_runs}
@@ -35,7 +35,7 @@ use Rattle.fsd_sound.specs.Laid.{HasOwnRoots, IsLaid}
 use Rattle.fsd_sound.specs.Mounted.{HasForced, IsMounted, Mounted}
 use Rattle.fsd_sound.specs.Saved.{AreSaved, EachClosed, SavesPages, closed_at, map_of}
 use Rattle.fsd_sound.specs.Shown.{all_pages, each_of, newest, records_by, shown, shown_by}
-use Rattle.fsd_sound.specs.Sound.{EachStamp, HasAnchors, HasHomes, HasLog, HasRoots, IsSound, IsSuffix, LogsNothing, ScansAgree, SaysTurned, ShowsOne, ShowsPages, Tells, disk_records, on_disk, weak_of}
+use Rattle.fsd_sound.specs.Sound.{HasAnchors, HasHomes, HasLog, HasRoots, IsSound, LogsNothing, ScansAgree, ShowsOne, ShowsPages, Tells, disk_records, on_disk, weak_of}
 use Rattle.fsd_sound.specs.Stands.{StandsShown}
 use Rattle.fsd_sound.specs.Windows.{IsNarrow}
 use Rattle.fsd_sound.proofs.AlikeLaws.{suffix_same}
@@ -321,7 +321,7 @@ map_may_be_written m windows h f i j size front behind is =
 
 -- Of an image the anchors may be closed: it shows these pages alone, each copy that says so is the volume's own anchor, and
 -- all else is as it was.
-pub record Closes (l : Layout) (windows : List WeakRun) (a : Anchor) (pages : List (List ℕ)) (i j : Image) : Type 0 where
+pub record ClosesAnchors (l : Layout) (windows : List WeakRun) (a : Anchor) (pages : List (List ℕ)) (i j : Image) : Type 0 where
   pub shows : ShowsPages l windows (pages ∷ []) j
   pub closed : EachClosed j (λ b. b ≡ a)
   pub roots : HasOwnRoots l (weak_of windows) j
@@ -373,7 +373,7 @@ module _ (m : Mounted) (windows : List WeakRun) (narrow : IsNarrow (weak_of wind
   inside s place = let long = is.over.shows.readable.roots.fits in ⊎_elim (λ at. omega (arith, at, long, is.room)) (λ at. omega (arith, at, long, is.room)) place
 
   -- nothing is written yet
-  pub closes_none_yet : Closes m.volume.layout windows m.anchor is.disk i i
+  pub closes_none_yet : ClosesAnchors m.volume.layout windows m.anchor is.disk i i
   closes_none_yet = record {
     shows = is.over.shows;
     closed = (subst (λ (o : Option Anchor). IfSome o (λ b. b ≡ m.anchor)) (sym is.over.own.opened.0) tt, subst (λ (o : Option Anchor). IfSome o (λ b. b ≡ m.anchor)) (sym is.over.own.opened.1) tt);
@@ -383,7 +383,7 @@ module _ (m : Mounted) (windows : List WeakRun) (narrow : IsNarrow (weak_of wind
   }
 
   -- one more copy says so
-  module _ (s : ℕ) (place : IsAnchorPlace s) (c : Image) (closes : Closes m.volume.layout windows m.anchor is.disk i c) where
+  module _ (s : ℕ) (place : IsAnchorPlace s) (c : Image) (closes : ClosesAnchors m.volume.layout windows m.anchor is.disk i c) where
     room : s < length c
     room = omega (arith, inside s place, closes.size)
 
@@ -395,7 +395,7 @@ module _ (m : Mounted) (windows : List WeakRun) (narrow : IsNarrow (weak_of wind
         (λ same. subst (λ (o : Option Anchor). IfSome o (λ b. b ≡ m.anchor)) (sym (ap (closed_at (with_sector c s (closed_bytes m.anchor))) same ∙ says)) refl)
         (λ differs. subst (λ (o : Option Anchor). IfSome o (λ b. b ≡ m.anchor)) (sym (ap (λ (x : Sector). option_and_then read_closed (bytes_of x)) (with_other c s p (closed_bytes m.anchor) differs))) was) (same_or p s)
 
-    closes_more_once : ShowsPages m.volume.layout windows (is.disk ∷ []) (with_sector c s (closed_bytes m.anchor)) → Closes m.volume.layout windows m.anchor is.disk i (with_sector c s (closed_bytes m.anchor))
+    closes_more_once : ShowsPages m.volume.layout windows (is.disk ∷ []) (with_sector c s (closed_bytes m.anchor)) → ClosesAnchors m.volume.layout windows m.anchor is.disk i (with_sector c s (closed_bytes m.anchor))
     closes_more_once shows = record {
       shows = shows;
       closed = (closed_copy 8 closes.closed.0, closed_copy 12 closes.closed.1);
@@ -428,7 +428,7 @@ module _ (m : Mounted) (windows : List WeakRun) (narrow : IsNarrow (weak_of wind
       (roots_kept m.volume.layout (weak_of windows) 8 (anchor_bytes m.anchor) i (inl refl) is.over.own.roots) (first_mended hurt)))
       (whole_or_damaged (sector_at i 8))
 
-  pub closes_first : Closes m.volume.layout windows m.anchor is.disk i (with_sector i 8 (closed_bytes m.anchor))
+  pub closes_first : ClosesAnchors m.volume.layout windows m.anchor is.disk i (with_sector i 8 (closed_bytes m.anchor))
   closes_first = closes_more_once 8 (inl refl) i closes_none_yet first_shows
 
   -- ---- and the second
@@ -443,12 +443,12 @@ module _ (m : Mounted) (windows : List WeakRun) (narrow : IsNarrow (weak_of wind
       (omega (arith, inside 12 (inr refl), closes_first.size)) (with_same i 8 (closed_bytes m.anchor) (inside 8 (inl refl))) (second_same ∙ hurt) (is.over.shows.readable.roots.twins 12 refl hurt) first_shows)
       (whole_or_damaged (sector_at i 12))
 
-  pub closes_both : Closes m.volume.layout windows m.anchor is.disk i (with_sector (with_sector i 8 (closed_bytes m.anchor)) 12 (closed_bytes m.anchor))
+  pub closes_both : ClosesAnchors m.volume.layout windows m.anchor is.disk i (with_sector (with_sector i 8 (closed_bytes m.anchor)) 12 (closed_bytes m.anchor))
   closes_both = closes_more_once 12 (inr refl) (with_sector i 8 (closed_bytes m.anchor)) closes_first second_shows
 
   -- ---- it is sound
 
-  module _ (j : Image) (closes : Closes m.volume.layout windows m.anchor is.disk i j) where
+  module _ (j : Image) (closes : ClosesAnchors m.volume.layout windows m.anchor is.disk i j) where
     not_anchor : (s : ℕ) → 16 ≤ s → sector_at j s ≡ sector_at i s
     not_anchor s from = closes.others s (λ e. omega (arith, from, e)) (λ e. omega (arith, from, e))
 
