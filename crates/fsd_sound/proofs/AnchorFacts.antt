@@ -59,6 +59,12 @@ anchor_read bytes a is =
       third = subst (λ (x : Anchor). x.third ≤ 2) given.1 le;
     }
 
+pub read_is_anchor : (bytes : List ℕ) (a : Anchor) → read_anchor bytes ≡ Some a → is_anchor a ≡ true
+read_is_anchor bytes a is =
+    let read : Anchor = record { epoch = u32_at 4 bytes; third = u8_at 8 bytes; first = u32_at 12 bytes } in
+    let given = given_if (is_anchor read && spells_anchor read bytes) read a is in
+    ap is_anchor (sym given.1) ∙ (and_parts (is_anchor read) (spells_anchor read bytes) given.0).0
+
 -- ---- the anchors of an image
 
 -- an anchor that stands begins in one of the three thirds

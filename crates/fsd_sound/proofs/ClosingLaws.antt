@@ -1,13 +1,14 @@
 -- An anchor is written once more, and says that its volume is closed: the same pages are shown. Where the map of these pages
 -- is saved before, what is saved is what they tell.
-use Rattle.std.proofs.Common.{◌≡◌, ◌≢◌, ◌⊎◌, inl, inr, ⊎_elim, ℕ, ◌+◌, ◌^◌, ◌<◌, ◌≤◌, true, List, [], ◌∷◌, length, map, take, Option, Some, None, refl, sym, ap, subst, ◌∙◌, arith}
-use Rattle.std.specs.Prelude.{Contains, IfSome, IsSome, IsTrue, nat_le, nat_lt, option_and_then}
+use Rattle.std.proofs.Common.{◌≡◌, ◌≢◌, ◌⊎◌, inl, inr, ⊎_elim, ℕ, ◌+◌, ◌^◌, ◌<◌, ◌≤◌, true, List, [], ◌∷◌, length, map, take, set-set, Option, Some, None, refl, sym, ap, subst, ◌∙◌, arith}
+use Rattle.std.specs.Prelude.{IfSome, IsSome, IsTrue, nat_le, nat_lt, option_and_then}
 use Rattle.std.specs.Option.{option_or}
 use Rattle.std.specs.List.{flat_map}
 use Rattle.std.proofs.lemmas.Bool.{and_parts, leb-true}
 use Rattle.std.proofs.lemmas.List.{length-set}
 use Rattle.volume_layout.specs.declared.layout.Layout.{Layout}
-use Rattle.volume_layout.specs.Layout.{data_start, home_a, home_b, is_data, map_sectors, turned}
+use Rattle.volume_layout.specs.Layout.{data_start, home_a, home_b, is_data, map_sectors, map_start, turned}
+use Rattle.volume_layout.specs.Root.{root_bytes}
 use Rattle.run_table.specs.RunTable.{sectors_of}
 use Rattle.run_table.specs.Space.{all_differ}
 use Rattle.fsd_formats.specs.declared.anchor.Anchor.{Anchor}
@@ -15,11 +16,11 @@ use Rattle.fsd_formats.specs.declared.entry.Entry.{Entry}
 use Rattle.fsd_formats.specs.Anchors.{anchor_bytes, closed_bytes, is_anchor, read_anchor, read_closed}
 use Rattle.fsd_formats.specs.declared.map_head.MapHead.{MapHead}
 use Rattle.fsd_formats.specs.SavedMap.{IsMapOf, MapCounts, head_of}
-use Rattle.fsd_formats.proofs.SpellingLaws.{anchor_is_read, closed_is_read}
+use Rattle.fsd_formats.proofs.SpellingLaws.{anchor_is_read, closed_is_read, closed_is_read_closed}
 use Rattle.sector_disk.specs.declared.sector.Sector.{Sector}
 use Rattle.sector_disk.specs.declared.sector.Sector.TheVariants.{Whole, Damaged}
 use Rattle.sector_disk.specs.declared.sector.WeakRun.{WeakRun}
-use Rattle.sector_disk.specs.Image.{sector_at, with_sector, IsWorn}
+use Rattle.sector_disk.specs.Image.{sector_at, with_sector}
 use Rattle.fsd_log.specs.Images.{last_image}
 use Rattle.fsd_log.specs.Scan.{Placed, Walked, newer_of}
 use Rattle.fsd_files.specs.Disk.{Image, Sectors, SectorWorn, bytes_at, bytes_of, first_whole, in_runs}
@@ -27,18 +28,19 @@ use Rattle.fsd_files.specs.Files.{Change, Files, after}
 use Rattle.fsd_files.specs.Kept.{Describes}
 use Rattle.fsd_files.specs.Volume.{plans_of}
 use Rattle.fsd_table.specs.Table.{told_in}
-use Rattle.fsd_files.proofs.KeptLaws.{kept_worn}
+use Rattle.fsd_files.proofs.KeptLaws.{has_on, kept_worn}
 use Rattle.fsd_sound.specs.Anchors.{anchor_at, anchor_of, EachAnchor}
 use Rattle.fsd_sound.specs.Homes.{home_of}
 use Rattle.fsd_sound.specs.Laid.{HasOwnRoots, IsLaid}
 use Rattle.fsd_sound.specs.Mounted.{HasForced, IsMounted, Mounted}
 use Rattle.fsd_sound.specs.Saved.{AreSaved, EachClosed, SavesPages, closed_at, map_of}
 use Rattle.fsd_sound.specs.Shown.{all_pages, each_of, newest, records_by, shown, shown_by}
-use Rattle.fsd_sound.specs.Sound.{EachStamp, HasAnchors, HasHomes, HasLog, HasRoots, IsSound, IsSuffix, LogsNothing, ScansAgree, SaysTurned, ShowsOne, ShowsPages, Tells, disk_records, on_disk, weak_of}
+use Rattle.fsd_sound.specs.Sound.{HasAnchors, HasHomes, HasLog, HasRoots, IsSound, LogsNothing, ScansAgree, ShowsOne, ShowsPages, Tells, disk_records, on_disk, weak_of}
 use Rattle.fsd_sound.specs.Stands.{StandsShown}
 use Rattle.fsd_sound.specs.Windows.{IsNarrow}
 use Rattle.fsd_sound.proofs.AlikeLaws.{suffix_same}
-use Rattle.fsd_sound.proofs.AnchorFacts.{if_some_on, some_third, taken_third}
+use Rattle.fsd_sound.proofs.AnchorFacts.{IsAnchor, anchor_read, if_some_on, read_is_anchor, some_third, taken_third}
+use Rattle.fsd_sound.proofs.AnchorMendLaws.{anchor_shows}
 use Rattle.fsd_sound.proofs.CommuteLaws.{all_over, all_shows, both_own, same_or, shows_all, with_other, with_same}
 use Rattle.fsd_sound.proofs.LogPlaces.{SameLog, laid_same, same_scan, scan_records}
 use Rattle.fsd_files.proofs.WaitLaws.{open_in_area}
@@ -46,7 +48,8 @@ use Rattle.fsd_sound.proofs.FrontLaws.{SameFront, front_shows}
 use Rattle.fsd_sound.proofs.MountedLaws.{all_data, one_of, own_same, some_forced, tells_forced}
 use Rattle.fsd_sound.proofs.OpenLaws.{open_worn}
 use Rattle.fsd_sound.proofs.SaidLaws.{says_same, some_same}
-use Rattle.fsd_sound.proofs.SectorFacts.{not_damaged}
+use Rattle.fsd_sound.proofs.SavedLaws.{ReadsLess, closes_none, each_closed, map_before, spelled_open}
+use Rattle.fsd_sound.proofs.SectorFacts.{not_damaged, whole_or_damaged}
 use Rattle.fsd_sound.proofs.SoundLaws.{sound_from_pages}
 
 -- ---- an image with an anchor that is closed
@@ -226,21 +229,28 @@ same_counts l epoch a b sectors some one two =
     let same : head_of epoch 0 a ≡ head_of epoch 0 b = cc given in
     (ap (λ (h : MapHead). h.pages) same, ap (λ (h : MapHead). h.versions) same)
 
--- where each copy that says that the volume was closed is of that epoch, what is saved is what the pages tell
-pub saved_so : (l : Layout) (epoch : ℕ) (pages : List (List ℕ)) (i : Image) → HasSaved l epoch pages i → EachClosed i (λ a. a.epoch ≡ epoch) → SavesPages l i pages
-saved_so l epoch pages i has each = (by (closed_at i 8) each.0, by (closed_at i 12) each.1)
-  where
-    told : (a : Anchor) → a.epoch ≡ epoch → (sectors : List (List ℕ)) (counts : MapCounts) → map_of l i ≡ Some sectors → IsMapOf l a.epoch counts sectors → AreSaved l counts sectors pages
-    told a same sectors counts whole is =
-        let one : has.sectors ≡ sectors = cc (sym has.whole ∙ whole) in
-        let mine : IsMapOf l epoch counts sectors = subst (λ (e : ℕ). IsMapOf l e counts sectors) same is in
-        let saved : AreSaved l has.counts sectors pages = subst (λ (x : List (List ℕ)). AreSaved l has.counts x pages) one has.saved in
-        let counted = same_counts l epoch has.counts counts sectors has.some (subst (IsMapOf l epoch has.counts) one has.is) mine in
-        record { telling = saved.telling; told = saved.told; reached = saved.reached ∙ counted.0; versions = saved.versions ∙ counted.1; free = saved.free; spare = saved.spare }
+-- what a map of this epoch says, where one is whole, the pages tell
+abbrev pub MapTells : Layout → (epoch : ℕ) → List (List ℕ) → Image → Type 0
+MapTells l epoch pages i = (sectors : List (List ℕ)) (counts : MapCounts) → map_of l i ≡ Some sectors → IsMapOf l epoch counts sectors → AreSaved l counts sectors pages
 
-    by : (o : Option Anchor) → IfSome o (λ a. a.epoch ≡ epoch) → IfSome o (λ a. (sectors : List (List ℕ)) (counts : MapCounts) → map_of l i ≡ Some sectors → IsMapOf l a.epoch counts sectors → AreSaved l counts sectors pages)
-    by None of = tt
-    by (Some a) of = told a of
+-- so it is of the map that is saved
+pub saved_tells : (l : Layout) (epoch : ℕ) (pages : List (List ℕ)) (i : Image) → HasSaved l epoch pages i → MapTells l epoch pages i
+saved_tells l epoch pages i has sectors counts whole is =
+    let one : has.sectors ≡ sectors = cc (sym has.whole ∙ whole) in
+    let saved : AreSaved l has.counts sectors pages = subst (λ (x : List (List ℕ)). AreSaved l has.counts x pages) one has.saved in
+    let counted = same_counts l epoch has.counts counts sectors has.some (subst (IsMapOf l epoch has.counts) one has.is) is in
+    record { telling = saved.telling; told = saved.told; reached = saved.reached ∙ counted.0; versions = saved.versions ∙ counted.1; free = saved.free; spare = saved.spare }
+
+-- and where its sectors are read no more than they were
+pub map_tells_on : (l : Layout) (epoch : ℕ) (pages : List (List ℕ)) (i j : Image) → ((s : ℕ) → map_start l ≤ s → s < map_start l + map_sectors l → ReadsLess i j s) → MapTells l epoch pages i → MapTells l epoch pages j
+map_tells_on l epoch pages i j less tells sectors counts whole is = tells sectors counts (map_before l i j sectors less whole) is
+
+-- where each copy that says that the volume was closed is of that epoch, what is saved is what the pages tell
+pub saved_so : (l : Layout) (epoch : ℕ) (pages : List (List ℕ)) (i : Image) → MapTells l epoch pages i → EachClosed i (λ a. a.epoch ≡ epoch) → SavesPages l i pages
+saved_so l epoch pages i tells each =
+    each_closed _ _ i i
+    (λ a same sectors counts whole is. tells sectors counts whole (subst (λ (e : ℕ). IsMapOf l e counts sectors) same is))
+    (closes_none i i (λ bytes is. is) (λ bytes is. is)) each
 
 -- ---- a volume that is closed
 
@@ -272,7 +282,7 @@ closing_sound m windows h f i j is same shows saves =
     (λ pages one. one_of (λ ps. Tells l (in_runs windows) j h f (told_in ps)) is.disk pages (tells_forced m.volume windows h f j is.disk (some_forced m windows h f i is) forced) one)
     (λ pages one. one_of (SavesPages l j) is.disk pages saves one)
 
-area_behind : (l : Layout) (s : ℕ) → IsTrue (is_data l s) → data_start l ≤ s
+pub area_behind : (l : Layout) (s : ℕ) → IsTrue (is_data l s) → data_start l ≤ s
 area_behind l s is = leb-true (data_start l) s (and_parts (nat_le (data_start l) s) (nat_lt s l.sectors) is).0
 
 -- what is written to the map leaves the volume mounted
@@ -306,3 +316,147 @@ map_may_be_written m windows h f i j size front behind is =
         leaders = is.forced.leaders;
       };
     }
+
+-- ---- its anchors are written
+
+-- Of an image the anchors may be closed: it shows these pages alone, each copy that says so is the volume's own anchor, and
+-- all else is as it was.
+pub record ClosesAnchors (l : Layout) (windows : List WeakRun) (a : Anchor) (pages : List (List ℕ)) (i j : Image) : Type 0 where
+  pub shows : ShowsPages l windows (pages ∷ []) j
+  pub closed : EachClosed j (λ b. b ≡ a)
+  pub roots : HasOwnRoots l (weak_of windows) j
+  pub others : (s : ℕ) → s ≢ 8 → s ≢ 12 → sector_at j s ≡ sector_at i s
+  pub size : length j ≡ length i
+
+-- the places of an anchor
+abbrev pub IsAnchorPlace : ℕ → Type 0
+IsAnchorPlace s = (s ≡ 8) ⊎ (s ≡ 12)
+
+-- a root is none
+not_root : (s p : ℕ) → IsAnchorPlace s → p < 8 → p ≢ s
+not_root s p place low e = ⊎_elim (λ is. omega (arith, e, is, low)) (λ is. omega (arith, e, is, low)) place
+
+roots_kept : (l : Layout) (weak : Sectors) (s : ℕ) (bytes : List ℕ) (i : Image) → IsAnchorPlace s → HasOwnRoots l weak i → HasOwnRoots l weak (with_sector i s bytes)
+roots_kept l weak s bytes i place roots = (
+  has_on weak i (with_sector i s bytes) (root_bytes l) 0 (inl (with_other i s 0 bytes (not_root s 0 place (omega arith)))) roots.0,
+  has_on weak i (with_sector i s bytes) (root_bytes l) 4 (inl (with_other i s 4 bytes (not_root s 4 place (omega arith)))) roots.1,
+)
+
+module _ (m : Mounted) (windows : List WeakRun) (narrow : IsNarrow (weak_of windows)) (h : List Change) (f : ℕ) (i : Image) (is : IsMounted m windows h f i) where
+  own_spelled : (p : ℕ) (bytes : List ℕ) → IsAnchorPlace p → sector_at i p ≡ Whole bytes → (read_anchor bytes ≡ Some m.anchor) × (bytes ≡ anchor_bytes m.anchor)
+  own_spelled p bytes (inl first) at =
+      let there : sector_at i 8 ≡ Whole bytes = ap (sector_at i) (sym first) ∙ at in
+      spelled_open i 8 m.anchor bytes there is.over.own.opened.0 is.over.own.own.0 (is.over.shows.readable.anchors.first bytes there)
+  own_spelled p bytes (inr second) at =
+      let there : sector_at i 12 ≡ Whole bytes = ap (sector_at i) (sym second) ∙ at in
+      spelled_open i 12 m.anchor bytes there is.over.own.opened.1 is.over.own.own.1 (is.over.shows.readable.anchors.second bytes there)
+
+  -- a copy stands, since they are not weak at once
+  other_whole : sector_at i 8 ≡ Damaged → (bytes : List ℕ) × (sector_at i 12 ≡ Whole bytes)
+  other_whole hurt = ⊎_elim (λ whole. whole)
+      (λ worse. absurd (narrow 8 12 (omega arith) (is.over.shows.readable.roots.twins 8 refl hurt) (is.over.shows.readable.roots.twins 12 refl worse)))
+      (whole_or_damaged (sector_at i 12))
+
+  some_read : (bytes : List ℕ) × (read_anchor bytes ≡ Some m.anchor)
+  some_read = ⊎_elim
+      (λ whole. (whole.0, (own_spelled 8 whole.0 (inl refl) whole.1).0))
+      (λ hurt. let whole = other_whole hurt in (whole.0, (own_spelled 12 whole.0 (inr refl) whole.1).0))
+      (whole_or_damaged (sector_at i 8))
+
+  fits : is_anchor m.anchor ≡ true
+  fits = read_is_anchor some_read.0 m.anchor some_read.1
+
+  small : IsAnchor m.anchor
+  small = anchor_read some_read.0 m.anchor some_read.1
+
+  inside : (s : ℕ) → IsAnchorPlace s → s < length i
+  inside s place = let long = is.over.shows.readable.roots.fits in ⊎_elim (λ at. omega (arith, at, long, is.room)) (λ at. omega (arith, at, long, is.room)) place
+
+  -- nothing is written yet
+  pub closes_none_yet : ClosesAnchors m.volume.layout windows m.anchor is.disk i i
+  closes_none_yet = record {
+    shows = is.over.shows;
+    closed = (subst (λ (o : Option Anchor). IfSome o (λ b. b ≡ m.anchor)) (sym is.over.own.opened.0) tt, subst (λ (o : Option Anchor). IfSome o (λ b. b ≡ m.anchor)) (sym is.over.own.opened.1) tt);
+    roots = is.over.own.roots;
+    others = λ s first second. refl;
+    size = refl;
+  }
+
+  -- one more copy says so
+  module _ (s : ℕ) (place : IsAnchorPlace s) (c : Image) (closes : ClosesAnchors m.volume.layout windows m.anchor is.disk i c) where
+    room : s < length c
+    room = omega (arith, inside s place, closes.size)
+
+    says : closed_at (with_sector c s (closed_bytes m.anchor)) s ≡ Some m.anchor
+    says = ap (λ (x : Sector). option_and_then read_closed (bytes_of x)) (with_same c s (closed_bytes m.anchor) room) ∙ closed_is_read_closed m.anchor fits small.epoch small.first
+
+    closed_copy : (p : ℕ) → IfSome (closed_at c p) (λ b. b ≡ m.anchor) → IfSome (closed_at (with_sector c s (closed_bytes m.anchor)) p) (λ b. b ≡ m.anchor)
+    closed_copy p was = ⊎_elim
+        (λ same. subst (λ (o : Option Anchor). IfSome o (λ b. b ≡ m.anchor)) (sym (ap (closed_at (with_sector c s (closed_bytes m.anchor))) same ∙ says)) refl)
+        (λ differs. subst (λ (o : Option Anchor). IfSome o (λ b. b ≡ m.anchor)) (sym (ap (λ (x : Sector). option_and_then read_closed (bytes_of x)) (with_other c s p (closed_bytes m.anchor) differs))) was) (same_or p s)
+
+    closes_more_once : ShowsPages m.volume.layout windows (is.disk ∷ []) (with_sector c s (closed_bytes m.anchor)) → ClosesAnchors m.volume.layout windows m.anchor is.disk i (with_sector c s (closed_bytes m.anchor))
+    closes_more_once shows = record {
+      shows = shows;
+      closed = (closed_copy 8 closes.closed.0, closed_copy 12 closes.closed.1);
+      roots = roots_kept m.volume.layout (weak_of windows) s (closed_bytes m.anchor) c place closes.roots;
+      others = λ p first second. with_other c s p (closed_bytes m.anchor) (λ e. ⊎_elim (λ at. first (e ∙ at)) (λ at. second (e ∙ at)) place) ∙ closes.others p first second;
+      size = length-set c s (Whole (closed_bytes m.anchor)) ∙ closes.size;
+    }
+
+    -- where it stands open
+    shows_over : sector_at c s ≡ Whole (anchor_bytes m.anchor) → ShowsPages m.volume.layout windows (is.disk ∷ []) (with_sector c s (closed_bytes m.anchor))
+    shows_over was = closed_shows m.volume.layout windows narrow (is.disk ∷ []) s place m.anchor fits small.epoch small.first c room was closes.roots closes.shows
+
+  -- ---- the first copy
+
+  -- it is written as it was, where it is damaged
+  first_mended : sector_at i 8 ≡ Damaged → ShowsPages m.volume.layout windows (is.disk ∷ []) (with_sector i 8 (anchor_bytes m.anchor))
+  first_mended hurt =
+      let whole = other_whole hurt in
+      subst (λ (bytes : List ℕ). ShowsPages m.volume.layout windows (is.disk ∷ []) (with_sector i 8 bytes)) (own_spelled 12 whole.0 (inr refl) whole.1).1
+      (anchor_shows m.volume.layout windows narrow (is.disk ∷ []) 8 12 (inl (refl, refl)) i whole.0 (inside 8 (inl refl)) whole.1 hurt (is.over.shows.readable.roots.twins 8 refl hurt) is.over.shows)
+
+  first_shows : ShowsPages m.volume.layout windows (is.disk ∷ []) (with_sector i 8 (closed_bytes m.anchor))
+  first_shows = ⊎_elim
+      (λ whole. shows_over 8 (inl refl) i closes_none_yet (whole.1 ∙ ap (λ (b : List ℕ). Whole b) (own_spelled 8 whole.0 (inl refl) whole.1).1))
+      (λ hurt.
+      let c : Image = with_sector i 8 (anchor_bytes m.anchor) in
+      let long : length c ≡ length i = length-set i 8 (Whole (anchor_bytes m.anchor)) in
+      subst (ShowsPages m.volume.layout windows (is.disk ∷ [])) (set-set i 8 (Whole (anchor_bytes m.anchor)) (Whole (closed_bytes m.anchor)))
+      (closed_shows m.volume.layout windows narrow (is.disk ∷ []) 8 (inl refl) m.anchor fits small.epoch small.first c (omega (arith, long, inside 8 (inl refl))) (with_same i 8 (anchor_bytes m.anchor) (inside 8 (inl refl)))
+      (roots_kept m.volume.layout (weak_of windows) 8 (anchor_bytes m.anchor) i (inl refl) is.over.own.roots) (first_mended hurt)))
+      (whole_or_damaged (sector_at i 8))
+
+  pub closes_first : ClosesAnchors m.volume.layout windows m.anchor is.disk i (with_sector i 8 (closed_bytes m.anchor))
+  closes_first = closes_more_once 8 (inl refl) i closes_none_yet first_shows
+
+  -- ---- and the second
+
+  second_same : sector_at (with_sector i 8 (closed_bytes m.anchor)) 12 ≡ sector_at i 12
+  second_same = with_other i 8 12 (closed_bytes m.anchor) (λ e. omega (arith, e))
+
+  second_shows : ShowsPages m.volume.layout windows (is.disk ∷ []) (with_sector (with_sector i 8 (closed_bytes m.anchor)) 12 (closed_bytes m.anchor))
+  second_shows = ⊎_elim
+      (λ whole. shows_over 12 (inr refl) (with_sector i 8 (closed_bytes m.anchor)) closes_first (second_same ∙ whole.1 ∙ ap (λ (b : List ℕ). Whole b) (own_spelled 12 whole.0 (inr refl) whole.1).1))
+      (λ hurt. anchor_shows m.volume.layout windows narrow (is.disk ∷ []) 12 8 (inr (refl, refl)) (with_sector i 8 (closed_bytes m.anchor)) (closed_bytes m.anchor)
+      (omega (arith, inside 12 (inr refl), closes_first.size)) (with_same i 8 (closed_bytes m.anchor) (inside 8 (inl refl))) (second_same ∙ hurt) (is.over.shows.readable.roots.twins 12 refl hurt) first_shows)
+      (whole_or_damaged (sector_at i 12))
+
+  pub closes_both : ClosesAnchors m.volume.layout windows m.anchor is.disk i (with_sector (with_sector i 8 (closed_bytes m.anchor)) 12 (closed_bytes m.anchor))
+  closes_both = closes_more_once 12 (inr refl) (with_sector i 8 (closed_bytes m.anchor)) closes_first second_shows
+
+  -- ---- it is sound
+
+  module _ (j : Image) (closes : ClosesAnchors m.volume.layout windows m.anchor is.disk i j) where
+    not_anchor : (s : ℕ) → 16 ≤ s → sector_at j s ≡ sector_at i s
+    not_anchor s from = closes.others s (λ e. omega (arith, from, e)) (λ e. omega (arith, from, e))
+
+    closes_saves : MapTells m.volume.layout m.anchor.epoch is.disk i → SavesPages m.volume.layout j is.disk
+    closes_saves tells =
+        saved_so m.volume.layout m.anchor.epoch is.disk j
+        (map_tells_on m.volume.layout m.anchor.epoch is.disk i j (λ s from below bytes there. ap bytes_of (sym (not_anchor s (omega (arith, from)))) ∙ there) tells)
+        (each_closed _ _ j j (λ b own. ap (λ (x : Anchor). x.epoch) own) (closes_none j j (λ bytes there. there) (λ bytes there. there)) closes.closed)
+
+    pub closes_sound : MapTells m.volume.layout m.anchor.epoch is.disk i → IsSound m.volume.layout windows h f j
+    closes_sound tells = closing_sound m windows h f i j is (λ s from. inl (not_anchor s (omega (arith, from)))) closes.shows (closes_saves tells)

@@ -20,6 +20,7 @@ pub mod HomedLaws
 pub mod LaidLaws
 pub mod LeaderLaws
 pub mod LogPlaces
+pub mod MarkedLaws
 pub mod MendLaws
 pub mod MoreLaws
 pub mod MountedLaws

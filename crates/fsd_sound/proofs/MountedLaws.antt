@@ -384,20 +384,26 @@ same_items (x ∷ xs) (y ∷ ys) size each =
     let rest : xs ≡ ys = same_items xs ys (omega (arith, size)) (λ k. each (suc k)) in
     ap (λ (z : List ℕ). z ∷ xs) first ∙ ap (λ (zs : List (List ℕ)). y ∷ zs) rest
 
--- where nothing waits the disk's own table is the volume's, however the last window's run wears
-pub mounted_lasts : (m : Mounted) (windows : List WeakRun) (h : List Change) (f : ℕ) (i : Image) → IsMounted m windows h f i → m.volume.unforced ≡ 0 → AllWorn (weak_of windows) (λ j. told m.volume.layout j ≡ Some (telling_of m.volume)) i
-mounted_lasts m windows h f i is none j worn = by (shown m.volume.layout j) (is.over.shows.shows j worn)
+-- where nothing waits the disk shows the pages that are in memory
+pub same_pages : (m : Mounted) (windows : List WeakRun) (h : List Change) (f : ℕ) (i : Image) (is : IsMounted m windows h f i) → m.volume.unforced ≡ 0 → is.disk ≡ m.pages
+same_pages m windows h f i is none = same_items is.disk m.pages is.over.clean.size
+    (λ k. is.over.clean.each k (subst (λ (d : List ℕ). IsFalse (contains d k)) (sym (no_items m.dirty few)) refl))
   where
     few : length m.dirty ≤ 0
     few = let at_most = is.few in omega (arith, at_most, none)
 
-    same : is.disk ≡ m.pages
-    same = same_items is.disk m.pages is.over.clean.size
-        (λ k. is.over.clean.each k (subst (λ (d : List ℕ). IsFalse (contains d k)) (sym (no_items m.dirty few)) refl))
-
+-- and each image that shows them tells the volume's own table, however the last window's run wears
+pub shown_lasts : (m : Mounted) (windows : List WeakRun) (h : List Change) (f : ℕ) (i j : Image) (is : IsMounted m windows h f i) → m.volume.unforced ≡ 0 → ShowsPages m.volume.layout windows (is.disk ∷ []) j
+    → AllWorn (weak_of windows) (λ k. told m.volume.layout k ≡ Some (telling_of m.volume)) j
+shown_lasts m windows h f i j is none shows k worn = by (shown m.volume.layout k) (shows.shows k worn)
+  where
     by : (o : Option (List (List ℕ))) → ShowsOne (is.disk ∷ []) o → option_and_then told_in o ≡ Some (telling_of m.volume)
     by None one = absurd one
-    by (Some pages) one = one_of (λ pages. told_in pages ≡ Some (telling_of m.volume)) is.disk pages (ap told_in same ∙ is.in_memory) one
+    by (Some pages) one = one_of (λ pages. told_in pages ≡ Some (telling_of m.volume)) is.disk pages (ap told_in (same_pages m windows h f i is none) ∙ is.in_memory) one
+
+-- so does its disk
+pub mounted_lasts : (m : Mounted) (windows : List WeakRun) (h : List Change) (f : ℕ) (i : Image) → IsMounted m windows h f i → m.volume.unforced ≡ 0 → AllWorn (weak_of windows) (λ j. told m.volume.layout j ≡ Some (telling_of m.volume)) i
+mounted_lasts m windows h f i is none = shown_lasts m windows h f i i is none is.over.shows
 
 -- as the disk is
 pub mounted_tells : (m : Mounted) (windows : List WeakRun) (h : List Change) (f : ℕ) (i : Image) → IsMounted m windows h f i → m.volume.unforced ≡ 0 → told m.volume.layout i ≡ Some (telling_of m.volume)

@@ -1,6 +1,6 @@
 -- What keeps a saved map true.
 use Rattle.std.proofs.Common.{◌≡◌, ◌⊎◌, inl, inr, ⊎_elim, ℕ, zero, suc, ◌+◌, ◌<◌, ◌≤◌, Bool, List, [], ◌∷◌, length, Option, Some, None, refl, sym, ap, subst, ◌∙◌, arith}
-use Rattle.std.specs.Prelude.{IfSome, option_and_then, option_map}
+use Rattle.std.specs.Prelude.{IfSome, IsSome, option_and_then, option_map}
 use Rattle.std.specs.List.{range_with_len}
 use Rattle.std.proofs.lemmas.Bool.{cond-true}
 use Rattle.std.proofs.lemmas.List.{get_or-set_same, get_or-set_other}
@@ -8,10 +8,12 @@ use Rattle.volume_layout.specs.declared.layout.Layout.{Layout}
 use Rattle.volume_layout.specs.Layout.{map_sectors, map_start, turned}
 use Rattle.fsd_formats.specs.declared.anchor.Anchor.{Anchor}
 use Rattle.fsd_formats.specs.Anchors.{anchor_bytes, closed_bytes, is_closed, read_anchor, read_closed}
+use Rattle.fsd_formats.proofs.SpellingLaws.{anchor_is_spelled}
 use Rattle.sector_disk.specs.declared.sector.Sector.{Sector}
 use Rattle.sector_disk.specs.declared.sector.Sector.TheVariants.{Whole, Damaged}
 use Rattle.sector_disk.specs.Image.{sector_at, with_sector, IsWorn}
 use Rattle.fsd_files.specs.Disk.{Image, Sectors, SectorWorn, bytes_at, bytes_of}
+use Rattle.fsd_sound.specs.Anchors.{anchor_at}
 use Rattle.fsd_sound.specs.Shown.{each_of}
 use Rattle.fsd_sound.specs.Saved.{ClosesNone, EachClosed, IsOpen, SavesPages, closed_at, map_of}
 
@@ -78,6 +80,20 @@ stays_open i j none is = (none_left (closed_at i 8) (closed_at j 8) none.0 is.0,
 -- one that is spelled so says so
 pub closed_says : (bytes : List ℕ) (a : Anchor) → bytes ≡ closed_bytes a → read_anchor bytes ≡ Some a → read_closed bytes ≡ Some a
 closed_says bytes a closed reads = cond-true (is_closed bytes) (read_anchor bytes) None (ap is_closed closed) ∙ reads
+
+-- one that stands and does not say so is spelled as one that is open
+pub spelled_open : (i : Image) (s : ℕ) (a : Anchor) (bytes : List ℕ) → sector_at i s ≡ Whole bytes → closed_at i s ≡ None → IfSome (anchor_at i s) (λ b. b ≡ a) → IsSome (read_anchor bytes) → (read_anchor bytes ≡ Some a) × (bytes ≡ anchor_bytes a)
+spelled_open i s a bytes at shut own some = by (read_anchor bytes) refl (subst (λ (o : Option Anchor). IfSome o (λ b. b ≡ a)) (ap (λ (x : Sector). option_and_then read_anchor (bytes_of x)) at) own) some
+  where
+    said : (b : Anchor) → read_closed bytes ≡ Some b → ⊥
+    said b is = absurd (let none : None ≡ Some b = sym shut ∙ ap (λ (x : Sector). option_and_then read_closed (bytes_of x)) at ∙ is in cc)
+
+    by : (o : Option Anchor) → read_anchor bytes ≡ o → IfSome o (λ b. b ≡ a) → IsSome o → (read_anchor bytes ≡ Some a) × (bytes ≡ anchor_bytes a)
+    by None reads mine there = absurd (cc there)
+    by (Some b) reads mine there = (
+      reads ∙ ap (λ (x : Anchor). Some x) mine,
+      ⊎_elim (λ plain. plain ∙ ap anchor_bytes mine) (λ closed. absurd (said b (closed_says bytes b closed reads))) (anchor_is_spelled bytes b reads),
+    )
 
 -- an anchor of a volume that is not closed says nothing
 pub plain_is_open : (i : Image) (s : ℕ) (a : Anchor) → sector_at i s ≡ Whole (anchor_bytes a) → closed_at i s ≡ None

@@ -1,5 +1,5 @@
 -- What stands twice is written from its whole twin: a volume stays mounted.
-use Rattle.std.proofs.Common.{◌≡◌, ◌≢◌, ◌⊎◌, inl, inr, ⊎_elim, ℕ, ◌+◌, ◌*◌, ◌<◌, ◌≤◌, List, [], ◌∷◌, length, Option, Some, None, refl, sym, ap, subst, ◌∙◌, arith}
+use Rattle.std.proofs.Common.{◌≡◌, ◌≢◌, ◌⊎◌, inl, inr, ⊎_elim, ℕ, ◌+◌, ◌*◌, ◌<◌, ◌≤◌, List, [], ◌∷◌, length, Option, None, refl, sym, ap, subst, ◌∙◌, arith}
 use Rattle.std.specs.Prelude.{IfSome, IsSome, IsTrue, option_and_then, take}
 use Rattle.std.specs.List.{AllByRecursion}
 use Rattle.std.proofs.lemmas.List.{length-set}
@@ -8,7 +8,6 @@ use Rattle.volume_layout.specs.Layout.{map_start}
 use Rattle.volume_layout.specs.Root.{root_bytes}
 use Rattle.fsd_formats.specs.declared.anchor.Anchor.{Anchor}
 use Rattle.fsd_formats.specs.Anchors.{anchor_bytes, read_anchor, read_closed}
-use Rattle.fsd_formats.proofs.SpellingLaws.{anchor_is_spelled}
 use Rattle.sector_disk.specs.declared.sector.WeakRun.{WeakRun}
 use Rattle.sector_disk.specs.declared.sector.Sector.{Sector}
 use Rattle.sector_disk.specs.declared.sector.Sector.TheVariants.{Whole, Damaged}
@@ -18,7 +17,7 @@ use Rattle.fsd_files.specs.Disk.{Has, Image, bytes_of, in_runs}
 use Rattle.fsd_files.specs.Files.{Change, after}
 use Rattle.fsd_sound.specs.Anchors.{anchor_at, EachAnchor}
 use Rattle.fsd_sound.specs.Saved.{IsOpen, closed_at}
-use Rattle.fsd_sound.proofs.SavedLaws.{closed_says}
+use Rattle.fsd_sound.proofs.SavedLaws.{spelled_open}
 use Rattle.fsd_sound.specs.Homes.{AreTwins}
 use Rattle.fsd_sound.specs.Laid.{HasOwnLog}
 use Rattle.fsd_sound.specs.Mounted.{IsMounted, Mounted, SameData}
@@ -109,16 +108,9 @@ module _ (m : Mounted) (windows : List WeakRun) (narrow : IsNarrow (weak_of wind
   anchor_is_twin (inl a) = subst (λ (p : ℕ). IsTrue (is_twin m.volume.layout p)) (sym a.0) refl
   anchor_is_twin (inr a) = subst (λ (p : ℕ). IsTrue (is_twin m.volume.layout p)) (sym a.0) refl
 
-  -- what is read of an anchor that stands
+  -- an anchor that stands
   spelled : (p : ℕ) (y : List ℕ) → sector_at i p ≡ Whole y → closed_at i p ≡ None → IfSome (anchor_at i p) (λ b. b ≡ m.anchor) → ((b : List ℕ) → sector_at i p ≡ Whole b → IsSome (read_anchor b)) → y ≡ anchor_bytes m.anchor
-  spelled p y at shut own some = by_read (read_anchor y) refl (subst (λ (o : Option Anchor). IfSome o (λ b. b ≡ m.anchor)) (ap (λ (x : Sector). option_and_then read_anchor (bytes_of x)) at) own) (some y at)
-    where
-      said : (b : Anchor) → read_closed y ≡ Some b → ⊥
-      said b is = absurd (let none : None ≡ Some b = sym shut ∙ ap (λ (x : Sector). option_and_then read_closed (bytes_of x)) at ∙ is in cc)
-
-      by_read : (o : Option Anchor) → read_anchor y ≡ o → IfSome o (λ b. b ≡ m.anchor) → IsSome o → y ≡ anchor_bytes m.anchor
-      by_read None reads mine there = absurd (cc there)
-      by_read (Some b) reads mine there = ⊎_elim (λ plain. plain ∙ ap anchor_bytes mine) (λ closed. absurd (said b (closed_says y b closed reads))) (anchor_is_spelled y b reads)
+  spelled p y at shut own some = (spelled_open i p m.anchor y at shut own (some y at)).1
 
   own : EachAnchor i (λ b. b ≡ m.anchor)
   own = is.over.own.own

@@ -1,7 +1,7 @@
--- Where a force and a mount write.
-use Rattle.std.specs.Prelude.{◌⊎◌, ℕ, ◌&&◌, ◌||◌, ◌==◌, nat_le, nat_lt, IsFalse}
+-- Where a force, a mount and a close write.
+use Rattle.std.specs.Prelude.{◌⊎◌, ℕ, ◌+◌, ◌&&◌, ◌||◌, ◌==◌, nat_le, nat_lt, IsFalse}
 use Rattle.volume_layout.specs.declared.layout.Layout.{Layout}
-use Rattle.volume_layout.specs.Layout.{home_a}
+use Rattle.volume_layout.specs.Layout.{home_a, map_sectors, map_start}
 use Rattle.sector_disk.specs.Image.{open_damage, sector_at}
 use Rattle.sector_disk.specs.Machine.{Moment, Wears}
 use Rattle.fsd_files.specs.Disk.{Sectors, SectorWorn}
@@ -11,6 +11,14 @@ use Rattle.fsd_sound.specs.Sound.{is_home}
 -- whether a force writes there: the anchors, the log, the homes
 abbrev pub force_writes : Layout → Sectors
 force_writes l s = (s == 8) || (s == 12) || nat_le 16 s && nat_lt s (home_a l 0) || is_home l s
+
+-- whether the sector is one of the map's
+abbrev pub in_map : Layout → Sectors
+in_map l s = nat_le (map_start l) s && nat_lt s (map_start l + map_sectors l)
+
+-- whether a close writes there: where a force writes, and the map
+abbrev pub close_writes : Layout → Sectors
+close_writes l s = force_writes l s || in_map l s
 
 -- whether a mount writes there: the roots beside what a force writes
 abbrev pub mount_writes : Layout → Sectors

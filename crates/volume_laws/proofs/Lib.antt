@@ -75,6 +75,7 @@ pub mod ReaderLaws
 pub mod ReserveLaws
 pub mod RunFitLaws
 pub mod SameTableLaws
+pub mod SavingLaws
 pub mod SliceEnds
 pub mod SliceFits
 pub mod SliceWriteLaws
