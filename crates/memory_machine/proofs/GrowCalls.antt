@@ -155,21 +155,21 @@ refused_widened count old new refused =
 -- its sectors may have come all the same
 module _ (had count told : ℕ) (image : Vec Sector Global) (come : Bool) (old new : MemoryMachine) (noted : Notes false (Extending had count) old new) (size : had ≡ length old.image.items)
     (tells : told ≡ (memory_report old).sectors) (image_is : image.items ≡ (if come then extended count new.image.items else new.image.items)) where
-  abbrev end : MemoryMachine
-  end = record new { image = image; told = told }
+  abbrev left : MemoryMachine
+  left = record new { image = image; told = told }
 
-  long : length new.image.items ≡ had
-  long = noted_size false (Extending had count) old new noted ∙ sym size
+  same_size : length new.image.items ≡ had
+  same_size = noted_size false (Extending had count) old new noted ∙ sym size
 
-  back : take had image.items ≡ new.image.items
-  back = ap (take had) image_is ∙ by_come come
+  goes_back : take had image.items ≡ new.image.items
+  goes_back = ap (take had) image_is ∙ by_come come
     where
       by_come : (b : Bool) → take had (if b then extended count new.image.items else new.image.items) ≡ new.image.items
-      by_come true = take_at new.image.items (replicate (count - length new.image.items) Damaged) had long
-      by_come false = take_all had new.image.items (omega (arith, long))
+      by_come true = take_at new.image.items (replicate (count - length new.image.items) Damaged) had same_size
+      by_come false = take_all had new.image.items (omega (arith, same_size))
 
-  syncs : (memory_now old).synced ≤ (memory_now end).synced
-  syncs = noted_syncs false (Extending had count) old new noted
+  stays : (memory_now old).synced ≤ (memory_now left).synced
+  stays = noted_syncs false (Extending had count) old new noted
 
   none_gone : length new.image.items ≤ length image.items
   none_gone = by_come come image_is
@@ -178,29 +178,29 @@ module _ (had count told : ℕ) (image : Vec Sector Global) (come : Bool) (old n
       by_come true is = omega (arith, ap (λ (l : List Sector). length l) is, length-extended count new.image.items)
       by_come false is = omega (arith, ap (λ (l : List Sector). length l) is)
 
-  told_is : (memory_report end).sectors ≡ (memory_report old).sectors
-  told_is = omega (arith, tells, none_gone, long, size)
+  told_still : (memory_report left).sectors ≡ (memory_report old).sectors
+  told_still = omega (arith, tells, none_gone, same_size, size)
 
-  grows : IsHonest end → Grows count (memory_now old) (memory_now end)
-  grows = wide_grows had count old new end noted back refl syncs come image_is
+  may_grow : IsHonest left → Grows count (memory_now old) (memory_now left)
+  may_grow = wide_grows had count old new left noted goes_back refl stays come image_is
 
-  pub widened_none : Widened count false old end
+  pub widened_none : Widened count false old left
   widened_none = record {
     sectors = λ f. absurd (cc f);
-    sectors_err = λ f. told_is;
-    honest = wide_honest had count old new end noted back refl syncs;
+    sectors_err = λ f. told_still;
+    honest = wide_honest had count old new left noted goes_back refl stays;
     extends = λ f. absurd (cc f);
-    grows = grows;
+    grows = may_grow;
     synced = λ f. absurd (cc f);
-    ledger = wide_ledger had count old new end noted back refl syncs;
-    time = λ h. wide_time had count old new end noted back refl syncs (grows h);
+    ledger = wide_ledger had count old new left noted goes_back refl stays;
+    time = λ h. wide_time had count old new left noted goes_back refl stays (may_grow h);
     reached = λ f. absurd (cc f);
   }
 
-  pub unwidened_state : Ends false (Extending had count) old new → come ≡ comes_by (next_verdict (memory_state old)) (count - length new.image.items) → Enlarged count same (memory_state old) (memory_state end) false
+  pub unwidened_state : Ends false (Extending had count) old new → come ≡ comes_by (next_verdict (memory_state old)) (count - length new.image.items) → Enlarged count same (memory_state old) (memory_state left) false
   unwidened_state ends come_is =
       let verdict = next_verdict (memory_state old) in
-      let told_new : (memory_report end).sectors ≡ (memory_report new).sectors = told_is ∙ sym (noted_sectors false (Extending had count) old new noted) in
+      let told_new : (memory_report left).sectors ≡ (memory_report new).sectors = told_still ∙ sym (noted_sectors false (Extending had count) old new noted) in
       let image_by : image.items ≡ (if comes_by verdict (count - length new.image.items) then extended count new.image.items else new.image.items) =
       image_is ∙ ap (λ (b : Bool). if b then extended count new.image.items else new.image.items) come_is in
       inr (record {

@@ -23,7 +23,7 @@ use Rattle.memory_machine.specs.declared.memory.MemoryMachine.{MemoryMachine}
 use Rattle.sector_disk.specs.Machine.{wrote}
 use Rattle.sector_disk.proofs.Wear.{length-stand}
 use Rattle.sector_disk.specs.Image.{settled, stand}
-use Rattle.memory_machine.specs.Events.{verdict_at, verdict_of, or_else, counts_at, stood_by, is_going, is_stop}
+use Rattle.memory_machine.specs.Events.{verdict_at, verdict_of, or_else, counts_at, comes_by, stood_by, is_going, is_stop}
 use Rattle.memory_machine.specs.Past.{hurt_all, attaches_in, attach_of, written_in, written_by, syncs_in, synced_by, begins_at, is_write_at, due}
 use Rattle.memory_machine.specs.State.{DiskState, Rests, noted, asked, opened, put_sectors, put_by, waits_behind, flushed, spoken, ended, next_verdict, call_goes, write_verdict, Exactly, Calls, Attached, Written, Enlarged, grown, grown_by, same}
 use Rattle.memory_machine.specs.Memory.{told_of, memory_state, memory_now, memory_report, memory_ledger, memory_honest, Notes, Refuses, Ends, Fails as Failing, IsAttaching, IsWriting}
@@ -119,13 +119,18 @@ pub going_state : (settle : Bool) (work : Work) (old new : MemoryMachine) → No
 going_state settle work old new call runs = noted_state settle work old new call ∙ (λ i. record (noted_by settle work (memory_state old)) { stopped = (runs ∙ sym call.running) i })
 
 -- or ends by its verdict
-ended_state : (settle : Bool) (work : Work) (old new : MemoryMachine) → Ends settle work old new → memory_state new ≡ ended (next_verdict (memory_state old)) (noted_by settle work (memory_state old))
+pub ended_state : (settle : Bool) (work : Work) (old new : MemoryMachine) → Ends settle work old new → memory_state new ≡ ended (next_verdict (memory_state old)) (noted_by settle work (memory_state old))
 ended_state settle work old new ends = noted_state settle work old new ends.noted ∙ (λ i. record (noted_by settle work (memory_state old)) { stopped = ends.stops i })
 
 pub going_runs : (verdict : Verdict) → is_going verdict ≡ true → is_stop verdict ≡ false
 going_runs Goes goes = refl
 going_runs (Fails some) goes = absurd (cc goes)
 going_runs (Stops some) goes = absurd (cc goes)
+
+pub going_comes : (verdict : Verdict) (more : ℕ) → is_going verdict ≡ true → comes_by verdict more ≡ true
+going_comes Goes more goes = refl
+going_comes (Fails some) more goes = absurd (cc goes)
+going_comes (Stops some) more goes = absurd (cc goes)
 
 -- what the machine notes is noted also where it stops
 pub noted_stopped : (settle : Bool) (work : Work) (old new : MemoryMachine) (stops : Bool) → Notes settle work old new → Notes settle work old (record new { stopped = stops })

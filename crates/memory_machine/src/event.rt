@@ -1,5 +1,5 @@
 //! What is to happen to a machine in memory.
-ghost use Rattle.std.specs.Prelude.{◌≡◌, ◌+◌, ◌<◌, ◌≤◌, ◌==◌, nat_lt, true};
+ghost use Rattle.std.specs.Prelude.{if◌then◌else◌, ◌≡◌, ◌+◌, ◌<◌, ◌≤◌, ◌==◌, nat_lt, true};
 ghost use Rattle.std.specs.List.{list_any};
 ghost use Rattle.memory_machine.specs.Events.{call_verdict_at, call_verdict_of, comes_by, is_nth_at, verdict_at, verdict_of, counts_at, hurt_by, piece_of, stood_by, is_going, is_stop};
 
@@ -94,13 +94,14 @@ impl Verdict {
         matches!(self, Verdict::Stops(_))
     }
 
-    // Whether so many new sectors of an extend come.
-    pub(crate) fn comes(&self, more: usize) -> bool
-        ensures { result ≡ comes_by self.now more }
+    // How many of so many new sectors of an extend come.
+    pub(crate) fn coming(&self, more: usize) -> usize
+        ensures exact { result ≡ (if comes_by self.now more then more else 0) }
+        ensures some { result ≤ more }
     {
         match self {
-            Verdict::Goes => true,
-            Verdict::Fails(stand) | Verdict::Stops(stand) => more as u64 <= *stand,
+            Verdict::Fails(stand) | Verdict::Stops(stand) if more as u64 > *stand => 0,
+            _ => more,
         }
     }
 }

@@ -348,7 +348,7 @@ impl MemoryMachine {
         if self.note(false, Work::Extending { had, count }).is_err() {
             return false;
         }
-        put_behind(&mut self.image, if verdict.comes(more) { more } else { 0 });
+        put_behind(&mut self.image, verdict.coming(more));
         self.stopped = verdict.stops();
         if !verdict.goes() {
             self.told = told;

@@ -6,7 +6,7 @@ use Rattle.memory_machine.proofs.States.{noted_stopped, going_runs}
 use Rattle.memory_machine.proofs.memory.MemoryMachine.call.Goals as goal
 
 pub returns-then-goes-clause-ok : goal.returns-then-goes-clause-ok
-returns-then-goes-clause-ok c = noted_stopped c.args.settle c.args.work c.args.self.now c.in_ok-note.new.self c.stops-self.result c.in_ok-note.ensures.ok
+returns-then-goes-clause-ok c = noted_stopped c.args.settle c.args.work c.args.self.now c.note.new.self c.stops-self.result c.in_ok-note.ensures.ok
 
 pub returns-then-goes-clause-running : goal.returns-then-goes-clause-running
 returns-then-goes-clause-running c =
@@ -18,7 +18,7 @@ pub returns-else-goes-clause-err : goal.returns-else-goes-clause-err
 returns-else-goes-clause-err c =
     let is_goes : c.goes.result ≡ is_going (next_verdict (memory_state c.args.self.now)) = search rules in
     inr (record {
-      noted = noted_stopped c.args.settle c.args.work c.args.self.now c.in_ok-note.new.self c.stops-self.result c.in_ok-note.ensures.ok;
+      noted = noted_stopped c.args.settle c.args.work c.args.self.now c.note.new.self c.stops-self.result c.in_ok-note.ensures.ok;
       fails = sym is_goes ∙ c.if-goes.false;
       stops = search rules;
     })

@@ -18,8 +18,8 @@ pub returns-in-Old-clause-opened : goal.returns-in-Old-clause-opened
 returns-in-Old-clause-opened c =
     let attaching : IsAttaching c.args.self.now.image.items c.args.path.now c.args.how c.in-Ok.work = rw c.in-Ok.work-is at c.in-Ok.ensures.work in
     let attaching_old = subst (λ (a : Attach). IsAttaching c.args.self.now.image.items c.args.path.now a c.in-Ok.work) c.in-Old.is attaching in
-    subst (λ (a : Attach). Opened c.args.path.now a c.count_of.result c.args.self.now (record c.call.new.self { next = None; told = c.count_of.result; synced = c.len-self.result; waiting = None })) (sym c.in-Old.is)
-    (opened_old c.in-Ok.work c.args.path.now c.count_of.result c.len-self.result c.args.self.now c.call.new.self (search rules) attaching_old (noted_of c.call.result c.if-is_err.ensures.value c.call.ensures.ok) (search rules))
+    subst (λ (a : Attach). Opened c.args.path.now a c.count_of-self.result c.args.self.now (record c.call.new.self { next = None; told = c.count_of-self.result; synced = c.len-self.result; waiting = None })) (sym c.in-Old.is)
+    (opened_old c.in-Ok.work c.args.path.now c.count_of-self.result c.len-self.result c.args.self.now c.call.new.self (search rules) attaching_old (noted_of c.call.result c.if-is_err.ensures.value c.call.ensures.ok) (search rules))
 
 pub returns-in-New-clause-opened : goal.returns-in-New-clause-opened
 returns-in-New-clause-opened c =
@@ -40,8 +40,8 @@ pub returns-in-Old-clause-exact : goal.returns-in-Old-clause-exact
 returns-in-Old-clause-exact c =
     let attaching : IsAttaching c.args.self.now.image.items c.args.path.now c.args.how c.in-Ok.work = rw c.in-Ok.work-is at c.in-Ok.ensures.work in
     let attaching_old = subst (λ (a : Attach). IsAttaching c.args.self.now.image.items c.args.path.now a c.in-Ok.work) c.in-Old.is attaching in
-    subst (λ (a : Attach). Attached c.args.path.now a same (memory_state c.args.self.now) (memory_state (record c.call.new.self { next = None; told = c.count_of.result; synced = c.len-self.result; waiting = None })) true) (sym c.in-Old.is)
-    (found_state c.in-Ok.work c.args.self.now.image.items c.args.path.now c.len-self.result c.args.self.now c.call.new.self (search rules) attaching_old (noted_of c.call.result c.if-is_err.ensures.value c.call.ensures.ok) (noted_of c.call.result c.if-is_err.ensures.value c.call.ensures.goes) (noted_of c.call.result c.if-is_err.ensures.value c.call.ensures.running) c.count_of.result (search rules))
+    subst (λ (a : Attach). Attached c.args.path.now a same (memory_state c.args.self.now) (memory_state (record c.call.new.self { next = None; told = c.count_of-self.result; synced = c.len-self.result; waiting = None })) true) (sym c.in-Old.is)
+    (found_state c.in-Ok.work c.args.self.now.image.items c.args.path.now c.len-self.result c.args.self.now c.call.new.self (search rules) attaching_old (noted_of c.call.result c.if-is_err.ensures.value c.call.ensures.ok) (noted_of c.call.result c.if-is_err.ensures.value c.call.ensures.goes) (noted_of c.call.result c.if-is_err.ensures.value c.call.ensures.running) c.count_of-self.result (search rules))
 
 pub returns-in-New-clause-exact : goal.returns-in-New-clause-exact
 returns-in-New-clause-exact c =
