@@ -1,5 +1,5 @@
 -- What a noted call that gives the image more sectors is to the layers above.
-use Rattle.std.proofs.Common.{◌≡◌, ◌⊎◌, inl, inr, ℕ, ◌+◌, ◌-◌, ◌^◌, ◌<◌, ◌≤◌, max, Bool, true, false, cond, List, [], ◌∷◌, ◌++◌, length, take, replicate, Vec, None, refl, sym, ◌∙◌, ap, subst, arith}
+use Rattle.std.proofs.Common.{◌≡◌, ◌⊎◌, inl, inr, ℕ, ◌+◌, ◌-◌, ◌^◌, ◌<◌, ◌≤◌, max, Bool, true, false, List, [], ◌∷◌, ◌++◌, length, take, replicate, Vec, None, refl, sym, ◌∙◌, ap, subst, arith}
 use Rattle.std.specs.Prelude.{IsTrue, if◌then◌else◌}
 use Rattle.std.specs.declared.alloc.Global.{Global}
 use Rattle.std.proofs.lemmas.List.{append-nil, take_all, take_at}
@@ -13,7 +13,7 @@ use Rattle.sector_disk.specs.Image.{sector_at, extended, IsWorn, weak}
 use Rattle.sector_disk.specs.Machine.{Moment, Elapses, Reaches, Extends, Grows}
 use Rattle.memory_machine.specs.Events.{comes_by}
 use Rattle.memory_machine.specs.Past.{undone, before, LeftSince}
-use Rattle.memory_machine.specs.State.{Enlarged, ended, grown, grown_by, noted, same, next_verdict, call_goes}
+use Rattle.memory_machine.specs.State.{Enlarged, ended, grown, grown_by, same, next_verdict, call_goes}
 use Rattle.memory_machine.specs.Memory.{told_of, memory_now, memory_report, memory_ledger, memory_state, IsHonest, Notes, Ends, Refuses, Widened}
 use Rattle.sector_disk.proofs.Extended.{length-extended, extended_worn}
 use Rattle.memory_machine.proofs.Steps.{IsHurt, elapses_push, reaches_push, noted_step, noted_calls, noted_syncs, noted_before, flag_of, noted_worn, noted_honest, noted_elsewhere, noted_size}

@@ -1,4 +1,4 @@
-use Rattle.std.proofs.Common.{◌≡◌, ◌∙◌, ◌≤◌, Bool, true, false, None, length, inl, refl, sym, subst, rules, arith}
+use Rattle.std.proofs.Common.{◌≡◌, ◌∙◌, ◌≤◌, Bool, false, None, length, inl, refl, sym, subst, rules, arith}
 use Rattle.memory_machine.specs.declared.memory.MemoryMachine.{MemoryMachine}
 use Rattle.memory_machine.specs.declared.past.Work.TheVariants.{Syncing}
 use Rattle.memory_machine.specs.Events.{is_going, is_stop}
