@@ -248,9 +248,9 @@ const READ: [Row<'static>; 3] = [
     ("cfs get v b!1", b"", 0, "y"),
 ];
 
-// Whether a growth with these events has said its reply, or a fault, or nothing, and the next run finds that it was done or
-// not; and that it is said then only where it was done, and is done where it was not. What is put then is read.
-fn is_done_or_not(
+/// Whether a growth with these events has said its reply, or a fault, or nothing, and the next run finds that it was done or
+/// not; and that it is said then only where it was done, and is done where it was not. What is put then is read.
+pub(crate) fn is_done_or_not(
     alloc: Global,
     m: MemoryMachine,
     held: usize,
@@ -277,8 +277,8 @@ fn is_done_or_not(
     Ok(said && found && grown && put == 0 && m.honest() && wrong.is_none())
 }
 
-// A volume with a version.
-fn with_version(alloc: Global, format: &str) -> Result<Vec<Sector>, AllocError> {
+/// A volume with a version.
+pub(crate) fn with_version(alloc: Global, format: &str) -> Result<Vec<Sector>, AllocError> {
     let m = calm(alloc, formatted(alloc, format)?);
     let (m, _) = run(alloc, m, &[], "cfs put v a", b"x")?;
     m.image().to_vec(alloc)
@@ -371,11 +371,11 @@ fn a_stopped_growth_may_wear(rt: HostRuntime) -> Result<(), Fail> {
     Ok(())
 }
 
-// How many sectors a small volume gains.
-const MORE: u32 = 3247;
+/// How many sectors a small volume gains.
+pub(crate) const MORE: u32 = 3247;
 
-// The sectors of a run are damaged just before this call, or never where it is 0.
-fn worn(first: u32, count: u32, call: u64) -> [Event; 2] {
+/// The ends of a run are damaged just before this call, or never where it is 0.
+pub(crate) fn worn(first: u32, count: u32, call: u64) -> [Event; 2] {
     let last = first.saturating_add(count.saturating_sub(1));
     let when = When::Call(call);
     [
@@ -432,11 +432,7 @@ const STANDS: [(u32, bool); 5] = [
 
 // The first sector of a weak run of so many, and how many may stand, where a growth that ends in its `extend` leaves
 // anything else.
-fn wrong_extend(
-    alloc: Global,
-    format: &str,
-    count: u32,
-) -> Result<Option<(u32, u32)>, AllocError> {
+fn wrong_extend(alloc: Global, format: &str, count: u32) -> Result<Option<(u32, u32)>, AllocError> {
     let image = with_version(alloc, format)?;
     for first in [0u32, 4, 8, 16, 720] {
         let call = extend_call(alloc, image.as_slice(), count, first)?;
