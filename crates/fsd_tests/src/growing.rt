@@ -236,19 +236,21 @@ const FEW: &[u8] = b"stat free 62 waiting 0 pages 15 versions 1\n";
 
 const MANY: &[u8] = b"stat free 3309 waiting 0 pages 15 versions 1\n";
 
-const READ: [Row<'static>; 2] = [
+// Behind a put of one more.
+const READ: [Row<'static>; 3] = [
     (
         STAT,
         b"",
         0,
-        "stat free 3309 waiting 0 pages 15 versions 1\n",
+        "stat free 3307 waiting 0 pages 15 versions 2\n",
     ),
     ("cfs get v a!1", b"", 0, "x"),
+    ("cfs get v b!1", b"", 0, "y"),
 ];
 
-// Whether a growth with these events has said its reply, or a fault, or nothing, and the next run finds that it was done or
-// not; and that it is said then only where it was done, and is done where it was not.
-fn is_done_or_not(
+/// Whether a growth with these events has said its reply, or a fault, or nothing, and the next run finds that it was done or
+/// not; and that it is said then only where it was done, and is done where it was not. What is put then is read.
+pub(crate) fn is_done_or_not(
     alloc: Global,
     m: MemoryMachine,
     held: usize,
@@ -270,12 +272,13 @@ fn is_done_or_not(
     } else {
         again == 0 && m.said() == b"grown 3968 free 3309\n".as_slice()
     };
+    let (m, put) = run(alloc, m, &[], "cfs put v b", b"y")?;
     let (m, wrong) = first_wrong(alloc, m, &READ)?;
-    Ok(said && found && grown && m.honest() && wrong.is_none())
+    Ok(said && found && grown && put == 0 && m.honest() && wrong.is_none())
 }
 
-// A volume with a version.
-fn with_version(alloc: Global, format: &str) -> Result<Vec<Sector>, AllocError> {
+/// A volume with a version.
+pub(crate) fn with_version(alloc: Global, format: &str) -> Result<Vec<Sector>, AllocError> {
     let m = calm(alloc, formatted(alloc, format)?);
     let (m, _) = run(alloc, m, &[], "cfs put v a", b"x")?;
     m.image().to_vec(alloc)
@@ -365,5 +368,91 @@ fn wrong_run(alloc: Global, format: &str, count: u32) -> Result<Option<u32>, All
 fn a_stopped_growth_may_wear(rt: HostRuntime) -> Result<(), Fail> {
     assert_eq!(rt; wrong_run(rt.alloc(), SMALL, 2)?, None);
     assert_eq!(rt; wrong_run(rt.alloc(), SMALL_TWO, 3)?, None);
+    Ok(())
+}
+
+/// How many sectors a small volume gains.
+pub(crate) const MORE: u32 = 3247;
+
+/// The ends of a run are damaged just before this call, or never where it is 0.
+pub(crate) fn worn(first: u32, count: u32, call: u64) -> [Event; 2] {
+    let last = first.saturating_add(count.saturating_sub(1));
+    let when = When::Call(call);
+    [
+        Event::HurtAt {
+            sector: first,
+            when,
+        },
+        Event::HurtAt { sector: last, when },
+    ]
+}
+
+// The call of a growth that gives the image its sectors, where these are damaged once it has attached it.
+fn extend_call(alloc: Global, image: &[Sector], count: u32, first: u32) -> Result<u64, AllocError> {
+    let [a, b] = worn(first, count, 2);
+    for call in 1..200u64 {
+        let stop = Event::StopCall { call, stand: MORE };
+        let m = weak(alloc, image, count, [first; 3])?;
+        let (m, _) = run(alloc, m, &[a, b, stop], GROW, b"")?;
+        if image.len() < m.image().len() {
+            return Ok(call);
+        }
+    }
+    Ok(0)
+}
+
+// Whether a growth that ends in this call, where so many of its sectors may stand, has given them to the image or none of
+// them, and is done behind that.
+fn ends_well(
+    alloc: Global,
+    image: &[Sector],
+    run_of: (u32, u32, u64),
+    end: Event,
+    comes: bool,
+) -> Result<bool, AllocError> {
+    let (first, count, hurt) = run_of;
+    let [a, b] = worn(first, count, 2);
+    let [c, d] = worn(first, count, hurt);
+    let m = weak(alloc, image, count, [first; 3])?;
+    let (m, _) = run(alloc, m, &[a, b, c, d, end], GROW, b"")?;
+    let came = image.len() < m.image().len();
+    let m = weak(alloc, image, count, [first; 3])?;
+    let done = is_done_or_not(alloc, m, 0, [&[a, b, c, d, end], &[a, b]])?;
+    Ok(came == comes && done)
+}
+
+// How many may stand, and whether the sectors come: together.
+const STANDS: [(u32, bool); 5] = [
+    (0, false),
+    (1, false),
+    (3246, false),
+    (MORE, true),
+    (u32::MAX, true),
+];
+
+// The first sector of a weak run of so many, and how many may stand, where a growth that ends in its `extend` leaves
+// anything else.
+fn wrong_extend(alloc: Global, format: &str, count: u32) -> Result<Option<(u32, u32)>, AllocError> {
+    let image = with_version(alloc, format)?;
+    for first in [0u32, 4, 8, 16, 720] {
+        let call = extend_call(alloc, image.as_slice(), count, first)?;
+        for (stand, comes) in STANDS {
+            let fail = Event::FailCall { call, stand };
+            let stop = Event::StopCall { call, stand };
+            for end in [fail, stop] {
+                let run_of = (first, count, call);
+                if !ends_well(alloc, image.as_slice(), run_of, end, comes)? {
+                    return Ok(Some((first, stand)));
+                }
+            }
+        }
+    }
+    Ok(None)
+}
+
+#[test]
+fn an_image_grows_at_once_or_not(rt: HostRuntime) -> Result<(), Fail> {
+    assert_eq!(rt; wrong_extend(rt.alloc(), SMALL, 2)?, None);
+    assert_eq!(rt; wrong_extend(rt.alloc(), SMALL_TWO, 3)?, None);
     Ok(())
 }

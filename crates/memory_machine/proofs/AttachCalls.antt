@@ -1,5 +1,5 @@
 -- What a noted attach is to the layers above.
-use Rattle.std.proofs.Common.{◌≡◌, ◌⊎◌, inl, inr, ⊎_elim, ℕ, ◌+◌, ◌-◌, ◌^◌, ◌<◌, ◌≤◌, min, Bool, true, false, cond, List, [], ◌∷◌, ◌++◌, length, take, replicate, Vec, None, refl, sym, ◌∙◌, ap, subst, arith}
+use Rattle.std.proofs.Common.{◌≡◌, ◌⊎◌, inl, inr, ⊎_elim, ℕ, ◌+◌, ◌-◌, ◌^◌, ◌<◌, ◌≤◌, min, false, List, [], ◌∷◌, ◌++◌, length, take, replicate, Vec, None, refl, sym, ◌∙◌, ap, subst, arith}
 use Rattle.std.specs.Prelude.{IsTrue}
 use Rattle.std.specs.declared.alloc.Global.{Global}
 use Rattle.std.proofs.lemmas.List.{take_all, length-replicate}
@@ -45,7 +45,7 @@ back_made path count (New asked) kept old new noted image made is = record { siz
 
 -- `end` has the past of `new`, whose image and windows it may have changed
 module _ (path : Vec ℕ Global) (how : Attach) (image : Vec Sector Global) (old new end : MemoryMachine) (noted : Notes false (Attaching path how image) old new) (back : GoesBack (Attaching path how image) old new noted end.image.items)
-    (rest : end ≡ record new { image = end.image; present = end.present; next = end.next; attached = end.attached; synced = end.synced; waiting = end.waiting }) (syncs : (memory_now old).synced ≤ (memory_now end).synced) where
+    (rest : end ≡ record new { image = end.image; present = end.present; next = end.next; told = end.told; synced = end.synced; waiting = end.waiting }) (syncs : (memory_now old).synced ≤ (memory_now end).synced) where
   abbrev work : Work
   work = Attaching path how image
 
@@ -83,9 +83,9 @@ module _ (path : Vec ℕ Global) (how : Attach) (image : Vec Sector Global) (old
   reached_is : Reached Wears old end
   reached_is = reaches_push old.past.items end.past.items step (memory_now old) (memory_now end) past_is was refl
 
-  pub noted_opened : (count : ℕ) → end.attached ≡ true → IsSynced (memory_now end) → count ≡ min (length end.image.items) (2 ^ 32 - 1) → (IsHonest end → Attaches how (memory_now old) (memory_now end)) → Opened path.items how count old end
-  noted_opened count attached synced size attaches = record {
-    sectors = ap (λ (b : Bool). cond b (min (length end.image.items) (2 ^ 32 - 1)) 0) attached ∙ sym size;
+  pub noted_opened : (count : ℕ) → end.told ≡ count → IsSynced (memory_now end) → count ≡ min (length end.image.items) (2 ^ 32 - 1) → (IsHonest end → Attaches how (memory_now old) (memory_now end)) → Opened path.items how count old end
+  noted_opened count told synced size attaches = record {
+    sectors = omega (arith, told, size);
     honest = λ h. noted_honest false work old new noted (new_honest h);
     attached = attaches;
     synced = synced;
@@ -124,8 +124,8 @@ module _ (path : Vec ℕ Global) (how : Attach) (image : Vec Sector Global) (old
 -- by the work that was made for the call
 pub opening_fails : (work : Work) (text : List ℕ) (how : Attach) (old new : MemoryMachine) → IsAttaching old.image.items text how work → Fails false work old new → NotOpened text how old new
 opening_fails _ text how old new is (inl refused) = refused_opening text how old new refused
-opening_fails (Attaching path asked image) text how old new is (inr noted) =
-    subst (λ (b : List ℕ). NotOpened b how old new) is.0 (subst (λ (a : Attach). NotOpened path.items a old new) is.1 (noted_unopened path asked image old new noted.0 is.2))
+opening_fails (Attaching path asked image) text how old new is (inr ends) =
+    subst (λ (b : List ℕ). NotOpened b how old new) is.0 (subst (λ (a : Attach). NotOpened path.items a old new) is.1 (noted_unopened path asked image old new ends.noted is.2))
 opening_fails (Writing first bytes olds done) text how old new is (inr noted) = absurd is
 opening_fails (Extending had limit) text how old new is (inr noted) = absurd is
 opening_fails (Saying bytes) text how old new is (inr noted) = absurd is
@@ -133,9 +133,9 @@ opening_fails (Syncing done) text how old new is (inr noted) = absurd is
 opening_fails Quiet text how old new is (inr noted) = absurd is
 
 pub opened_old : (work : Work) (text : List ℕ) (count sync : ℕ) (old new : MemoryMachine) → sync ≡ length new.past.items → IsAttaching old.image.items text Old work → Notes false work old new → count ≡ min (length new.image.items) (2 ^ 32 - 1)
-    → Opened text Old count old (record new { next = None; attached = true; synced = sync; waiting = None })
+    → Opened text Old count old (record new { next = None; told = count; synced = sync; waiting = None })
 opened_old (Attaching path asked image) text count sync old new now is noted size =
-    let end : MemoryMachine = record new { next = None; attached = true; synced = sync; waiting = None } in
+    let end : MemoryMachine = record new { next = None; told = count; synced = sync; waiting = None } in
     let syncs : (memory_now old).synced ≤ (memory_now end).synced = omega (arith, now, noted_calls false (Attaching path asked image) old new noted) in
     let back = back_found path asked image old new noted is.2 in
     let attaches = λ (h : IsHonest end). found path asked image old new end noted back refl syncs refl refl refl h in
@@ -148,9 +148,9 @@ opened_old (Syncing done) text count sync old new now is noted size = absurd is
 opened_old Quiet text count sync old new now is noted size = absurd is
 
 pub opened_new : (work : Work) (text : List ℕ) (count sync : ℕ) (fresh : Vec Sector Global) (old new : MemoryMachine) → sync ≡ length new.past.items → IsAttaching old.image.items text (New count) work → fresh.items ≡ replicate count Damaged → Notes false work old new → count < 2 ^ 32
-    → Opened text (New count) count old (record new { next = None; present = None; attached = true; image = fresh; synced = sync; waiting = None })
+    → Opened text (New count) count old (record new { next = None; present = None; told = count; image = fresh; synced = sync; waiting = None })
 opened_new (Attaching path asked image) text count sync fresh old new now is is_fresh noted small =
-    let end : MemoryMachine = record new { next = None; present = None; attached = true; image = fresh; synced = sync; waiting = None } in
+    let end : MemoryMachine = record new { next = None; present = None; told = count; image = fresh; synced = sync; waiting = None } in
     let size : count ≡ min (length fresh.items) (2 ^ 32 - 1) = omega (arith, ap (λ (l : List Sector). length l) is_fresh, length-replicate count Damaged, small) in
     let syncs : (memory_now old).synced ≤ (memory_now end).synced = omega (arith, now, noted_calls false (Attaching path asked image) old new noted) in
     let back = back_made path count asked image old new noted fresh.items is.1 is.2 in

@@ -1,5 +1,5 @@
 -- What a noted call is to the layers above.
-use Rattle.std.proofs.Common.{◌≡◌, ◌⊎◌, inl, inr, ℕ, ◌+◌, ◌-◌, ◌^◌, ◌≤◌, min, Bool, true, false, cond, List, [], ◌∷◌, ◌++◌, length, take, drop, Vec, refl, sym, ◌∙◌, ap, subst, arith, append_assoc}
+use Rattle.std.proofs.Common.{◌≡◌, ◌⊎◌, inl, inr, ℕ, ◌+◌, ◌≤◌, min, Bool, true, false, List, [], ◌∷◌, ◌++◌, length, take, drop, Vec, refl, sym, ◌∙◌, ap, subst, arith, append_assoc}
 use Rattle.std.specs.Prelude.{if◌then◌else◌, IsTrue, Result, Ok, Err, OnOk, OnErr, is_err}
 use Rattle.std.proofs.lemmas.List.{append-nil, take_all, take_at}
 use Rattle.sector_disk.specs.declared.sector.Sector.{Sector}
@@ -14,7 +14,7 @@ use Rattle.sector_disk.specs.Image.{sector_at, IsWorn, open_damage, weak}
 use Rattle.sector_disk.specs.Machine.{DiskCause, Moment, Asked, Elapses, Reaches, Wears, Utters, Says, Before, IsSynced}
 use Rattle.memory_machine.specs.Past.{undone, before, During, LeftSince, attaches_in, attach_of, written_in, written_by, syncs_in, synced_by}
 use Rattle.memory_machine.specs.State.{one_more}
-use Rattle.memory_machine.specs.Memory.{memory_now, memory_report, memory_ledger, memory_honest, IsHonest, Notes, Refuses, Fails, Passes, Reached, Spoken, Flushed}
+use Rattle.memory_machine.specs.Memory.{told_of, memory_now, memory_report, memory_ledger, memory_honest, IsHonest, Notes, Refuses, Fails, Passes, Reached, Spoken, Flushed}
 use Rattle.sector_disk.proofs.Wear.{worn_refl}
 use Rattle.memory_machine.proofs.Steps.{IsHurt, elapses_push, elapses_same, reaches_push, noted_step, noted_calls, noted_syncs, noted_before, flag_of, noted_worn, noted_honest, noted_elsewhere, noted_size}
 
@@ -42,9 +42,7 @@ module _ (settle : Bool) (work : Work) (old new : MemoryMachine) (noted : Notes 
   }
 
   pub noted_sectors : (memory_report new).sectors ≡ (memory_report old).sectors
-  noted_sectors =
-      ap (λ (m : MemoryMachine). cond m.attached (min (length new.image.items) (2 ^ 32 - 1)) 0) noted.rest
-      ∙ ap (λ (n : ℕ). cond old.attached (min n (2 ^ 32 - 1)) 0) (noted_size settle work old new noted)
+  noted_sectors = ap (λ (m : MemoryMachine). told_of m.told (length new.image.items)) noted.rest ∙ ap (told_of old.told) (noted_size settle work old new noted)
 
   pub noted_ledger : memory_ledger new ≡ record { input = (memory_ledger old).input; attaches = (memory_ledger old).attaches ++ attach_of work; written = (memory_ledger old).written + written_by work; syncs = (memory_ledger old).syncs + synced_by work }
   noted_ledger =
@@ -167,7 +165,7 @@ module _ (settle : Bool) (old new : MemoryMachine) where
   pub quiet_outcome : {T : Type 0} (r : Result T Failed) → OnOk r (Notes settle Quiet old new) → OnErr r (Fails settle Quiet old new) → Passes Wears old new
   quiet_outcome (Ok x) ok err = quiet_passes ok
   quiet_outcome (Err e) ok (inl refused) = refused_passes Wears wears_same old new refused
-  quiet_outcome (Err e) ok (inr noted) = quiet_passes noted.0
+  quiet_outcome (Err e) ok (inr ends) = quiet_passes ends.noted
 
   pub reached_outcome : {T : Type 0} (r : Result T Failed) → OnOk r (Notes settle Quiet old new) → OnOk r (Reached Wears old new)
   reached_outcome (Ok x) ok = quiet_reached ok
@@ -286,8 +284,9 @@ spoken_from bytes finished old said new same spoken =
 
 pub spoken_fails : (old new : MemoryMachine) (copy : Vec ℕ Global) → Fails false (Saying copy) old new → Spoken copy.items false old new
 spoken_fails old new copy (inl refused) = refused_spoken copy.items old new refused
-spoken_fails old new copy (inr noted) =
-    spoken_none old new new copy noted.0 refl (noted_syncs false (Saying copy) old new noted.0) (ap (λ (m : MemoryMachine). m.present) noted.0.rest) (ap (λ (m : MemoryMachine). m.next) noted.0.rest) (ap (λ (m : MemoryMachine). m.said.items) noted.0.rest)
+spoken_fails old new copy (inr ends) =
+    let noted = ends.noted in
+    spoken_none old new new copy noted refl (noted_syncs false (Saying copy) old new noted) (ap (λ (m : MemoryMachine). m.present) noted.rest) (ap (λ (m : MemoryMachine). m.next) noted.rest) (ap (λ (m : MemoryMachine). m.said.items) noted.rest)
 
 pub failed_of : {T E : Type 0} {P : Type 0} (r : Result T E) → true ≡ is_err r → OnErr r P → P
 failed_of (Ok x) err failed = absurd (cc err)

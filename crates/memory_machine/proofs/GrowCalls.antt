@@ -1,6 +1,6 @@
 -- What a noted call that gives the image more sectors is to the layers above.
-use Rattle.std.proofs.Common.{◌≡◌, ◌⊎◌, inl, inr, ℕ, ◌+◌, ◌-◌, ◌^◌, ◌<◌, ◌≤◌, min, max, Bool, true, false, cond, List, [], ◌∷◌, ◌++◌, length, take, replicate, Vec, None, refl, sym, ◌∙◌, ap, subst, arith}
-use Rattle.std.specs.Prelude.{IsTrue}
+use Rattle.std.proofs.Common.{◌≡◌, ◌⊎◌, inl, inr, ℕ, ◌+◌, ◌-◌, ◌^◌, ◌<◌, ◌≤◌, max, Bool, true, false, List, [], ◌∷◌, ◌++◌, length, take, replicate, Vec, None, refl, sym, ◌∙◌, ap, subst, arith}
+use Rattle.std.specs.Prelude.{IsTrue, if◌then◌else◌}
 use Rattle.std.specs.declared.alloc.Global.{Global}
 use Rattle.std.proofs.lemmas.List.{append-nil, take_all, take_at}
 use Rattle.sector_disk.specs.declared.sector.Sector.{Sector}
@@ -11,17 +11,18 @@ use Rattle.memory_machine.specs.declared.past.Work.TheVariants.{Extending}
 use Rattle.memory_machine.specs.declared.memory.MemoryMachine.{MemoryMachine}
 use Rattle.sector_disk.specs.Image.{sector_at, extended, IsWorn, weak}
 use Rattle.sector_disk.specs.Machine.{Moment, Elapses, Reaches, Extends, Grows}
+use Rattle.memory_machine.specs.Events.{comes_by}
 use Rattle.memory_machine.specs.Past.{undone, before, LeftSince}
-use Rattle.memory_machine.specs.State.{DiskState, Calls, grown, noted, same, call_goes}
-use Rattle.memory_machine.specs.Memory.{memory_now, memory_report, memory_ledger, memory_state, IsHonest, Notes, Refuses, Fails, Widened}
+use Rattle.memory_machine.specs.State.{Enlarged, ended, grown, grown_by, same, next_verdict, call_goes}
+use Rattle.memory_machine.specs.Memory.{told_of, memory_now, memory_report, memory_ledger, memory_state, IsHonest, Notes, Ends, Refuses, Widened}
 use Rattle.sector_disk.proofs.Extended.{length-extended, extended_worn}
 use Rattle.memory_machine.proofs.Steps.{IsHurt, elapses_push, reaches_push, noted_step, noted_calls, noted_syncs, noted_before, flag_of, noted_worn, noted_honest, noted_elsewhere, noted_size}
-use Rattle.memory_machine.proofs.Calls.{noted_ledger, noted_sectors, noted_wears, refused_passes, wears_same}
-use Rattle.memory_machine.proofs.States.{noted_state, failed_exactly, plain, same_min}
+use Rattle.memory_machine.proofs.Calls.{noted_ledger, noted_sectors, refused_passes, wears_same}
+use Rattle.memory_machine.proofs.States.{going_state, ended_state, plain, same_min}
 
 -- the call's own work is taken back: the image is the one before it, and may have more sectors behind
 module _ (had count : ℕ) (old new end : MemoryMachine) (noted : Notes false (Extending had count) old new) (back : undone (Extending had count) end.image.items ≡ new.image.items)
-    (rest : end ≡ record new { image = end.image; synced = end.synced; waiting = end.waiting }) (syncs : (memory_now old).synced ≤ (memory_now end).synced) where
+    (rest : end ≡ record new { image = end.image; told = end.told; synced = end.synced; waiting = end.waiting }) (syncs : (memory_now old).synced ≤ (memory_now end).synced) where
   abbrev work : Work
   work = Extending had count
 
@@ -70,12 +71,28 @@ module _ (had count : ℕ) (old new end : MemoryMachine) (noted : Notes false (E
   pub wide_reached : Reaches (memory_now old) (LeftSince (memory_now end) end.past.items) (Grows count (memory_now old))
   wide_reached = reaches_push old.past.items end.past.items step (memory_now old) (memory_now end) past_is was refl
 
+  pub wide_extends : end.image.items ≡ extended count new.image.items → IsHonest end → Extends count (memory_now old) (memory_now end)
+  wide_extends is h = record {
+    image = subst (λ (l : List Sector). IsWorn (weak old.present old.next) (extended count old.image.items) l) (sym is)
+        (extended_worn (weak old.present old.next) count old.image.items new.image.items (noted_worn false work old new noted (flag_new h)));
+    windows = wide_windows;
+    said = wide_said;
+  }
+
+  pub wide_grows : (come : Bool) → end.image.items ≡ (if come then extended count new.image.items else new.image.items) → IsHonest end → Grows count (memory_now old) (memory_now end)
+  wide_grows true is h = inr (wide_extends is h)
+  wide_grows false is h = inl (record {
+    image = subst (λ (l : List Sector). IsWorn (weak old.present old.next) old.image.items l) (sym is) (noted_worn false work old new noted (flag_new h));
+    windows = wide_windows;
+    said = wide_said;
+  })
+
 -- ---- it is done
 
-module _ (had count sync : ℕ) (image : Vec Sector Global) (old new : MemoryMachine) (noted : Notes false (Extending had count) old new) (size : had ≡ length old.image.items)
-    (attached : 0 < (memory_report old).sectors) (small : count < 2 ^ 32) (image_is : image.items ≡ extended count new.image.items) (now : sync ≡ length new.past.items) where
+module _ (had count told sync : ℕ) (image : Vec Sector Global) (old new : MemoryMachine) (noted : Notes false (Extending had count) old new) (size : had ≡ length old.image.items)
+    (small : count < 2 ^ 32) (tells : told ≡ max (memory_report old).sectors count) (image_is : image.items ≡ extended count new.image.items) (now : sync ≡ length new.past.items) where
   abbrev end : MemoryMachine
-  end = record new { image = image; synced = sync; waiting = None }
+  end = record new { image = image; told = told; synced = sync; waiting = None }
 
   long : length new.image.items ≡ had
   long = noted_size false (Extending had count) old new noted ∙ sym size
@@ -86,29 +103,18 @@ module _ (had count sync : ℕ) (image : Vec Sector Global) (old new : MemoryMac
   syncs : (memory_now old).synced ≤ (memory_now end).synced
   syncs = omega (arith, now, noted_calls false (Extending had count) old new noted)
 
-  extends : IsHonest end → Extends count (memory_now old) (memory_now end)
-  extends h = record {
-    image = subst (λ (l : List Sector). IsWorn (weak old.present old.next) (extended count old.image.items) l) (sym image_is)
-        (extended_worn (weak old.present old.next) count old.image.items new.image.items (noted_worn false (Extending had count) old new noted (flag_new had count old new end noted back refl syncs h)));
-    windows = wide_windows had count old new end noted back refl syncs;
-    said = wide_said had count old new end noted back refl syncs;
-  }
+  sized : length image.items ≡ max (length old.image.items) count
+  sized = ap (λ (l : List Sector). length l) image_is ∙ length-extended count new.image.items ∙ ap (λ (n : ℕ). max n count) (long ∙ size)
 
-  told : (memory_report end).sectors ≡ max (memory_report old).sectors count
-  told =
-      let is_attached : new.attached ≡ old.attached = ap (λ (m : MemoryMachine). m.attached) noted.rest in
-      let sized : length image.items ≡ max (length old.image.items) count = ap (λ (l : List Sector). length l) image_is ∙ length-extended count new.image.items ∙ ap (λ (n : ℕ). max n count) (long ∙ size) in
-      by_flag new.attached old.attached is_attached (length image.items) (length old.image.items) sized attached
-    where
-      by_flag : (a b : Bool) → a ≡ b → (n m : ℕ) → n ≡ max m count → 0 < cond b (min m (2 ^ 32 - 1)) 0 → cond a (min n (2 ^ 32 - 1)) 0 ≡ max (cond b (min m (2 ^ 32 - 1)) 0) count
-      by_flag true true is n m sized some = omega (arith, sized, small)
-      by_flag false false is n m sized some = absurd (omega (arith, some))
-      by_flag true false is n m sized some = absurd (cc is)
-      by_flag false true is n m sized some = absurd (cc is)
+  told_is : (memory_report end).sectors ≡ max (memory_report old).sectors count
+  told_is = omega (arith, small, tells, sized)
+
+  extends : IsHonest end → Extends count (memory_now old) (memory_now end)
+  extends = wide_extends had count old new end noted back refl syncs image_is
 
   pub widened_all : Widened count true old end
   widened_all = record {
-    sectors = λ f. told;
+    sectors = λ f. told_is;
     sectors_err = λ f. absurd (cc f);
     honest = wide_honest had count old new end noted back refl syncs;
     extends = λ f. extends;
@@ -119,13 +125,15 @@ module _ (had count sync : ℕ) (image : Vec Sector Global) (old new : MemoryMac
     reached = λ f. wide_reached had count old new end noted back refl syncs;
   }
 
-  pub widened_state : call_goes (memory_state old) ≡ true → Calls false (grown count) same (memory_state old) (memory_state end) true
-  widened_state goes = record {
-    running = noted.running;
-    goes = goes;
-    after = (λ i. record (memory_state new) { now = record (memory_now new) { image = image_is i; synced = same_min sync (length new.past.items) now i }; waiting = None })
-        ∙ ap (grown count) (noted_state false (Extending had count) old new noted ∙ plain false (memory_state old));
-  }
+  pub widened_state : call_goes (memory_state old) ≡ true → new.stopped ≡ false → Enlarged count same (memory_state old) (memory_state end) true
+  widened_state goes runs =
+      let told_new : (memory_report end).sectors ≡ max (memory_report new).sectors count = told_is ∙ ap (λ (n : ℕ). max n count) (sym (noted_sectors false (Extending had count) old new noted)) in
+      record {
+        running = noted.running;
+        goes = goes;
+        after = (λ i. record (memory_state new) { now = record (memory_now new) { image = image_is i; synced = same_min sync (length new.past.items) now i }; told = told_new i; waiting = None })
+            ∙ ap (grown count) (going_state false (Extending had count) old new noted runs ∙ plain false (memory_state old));
+      }
 
 -- ---- it is not
 
@@ -144,32 +152,76 @@ refused_widened count old new refused =
       reached = λ f. absurd (cc f);
     }
 
-pub widen_fails : (had count : ℕ) (old new : MemoryMachine) → had ≡ length old.image.items → Fails false (Extending had count) old new → Widened count false old new
-widen_fails had count old new size (inl refused) = refused_widened count old new refused
-widen_fails had count old new size (inr failed) =
-    let noted = failed.0 in
-    let long : length new.image.items ≤ had = omega (arith, size, noted_size false (Extending had count) old new noted) in
-    let back : take had new.image.items ≡ new.image.items = take_all had new.image.items long in
-    let syncs = noted_syncs false (Extending had count) old new noted in
-    let wears = λ (h : IsHonest new). noted_wears false (Extending had count) old new noted (flag_of new h) in
-    record {
-      sectors = λ f. absurd (cc f);
-      sectors_err = λ f. noted_sectors false (Extending had count) old new noted;
-      honest = λ h. noted_honest false (Extending had count) old new noted (flag_of new h);
-      extends = λ f. absurd (cc f);
-      grows = λ h. inl (wears h);
-      synced = λ f. absurd (cc f);
-      ledger = wide_ledger had count old new new noted back refl syncs;
-      time = λ h. wide_time had count old new new noted back refl syncs (inl (wears h));
-      reached = λ f. absurd (cc f);
-    }
+-- its sectors may have come all the same
+module _ (had count told : ℕ) (image : Vec Sector Global) (come : Bool) (old new : MemoryMachine) (noted : Notes false (Extending had count) old new) (size : had ≡ length old.image.items)
+    (tells : told ≡ (memory_report old).sectors) (image_is : image.items ≡ (if come then extended count new.image.items else new.image.items)) where
+  abbrev left : MemoryMachine
+  left = record new { image = image; told = told }
+
+  same_size : length new.image.items ≡ had
+  same_size = noted_size false (Extending had count) old new noted ∙ sym size
+
+  goes_back : take had image.items ≡ new.image.items
+  goes_back = ap (take had) image_is ∙ by_come come
+    where
+      by_come : (b : Bool) → take had (if b then extended count new.image.items else new.image.items) ≡ new.image.items
+      by_come true = take_at new.image.items (replicate (count - length new.image.items) Damaged) had same_size
+      by_come false = take_all had new.image.items (omega (arith, same_size))
+
+  stays : (memory_now old).synced ≤ (memory_now left).synced
+  stays = noted_syncs false (Extending had count) old new noted
+
+  none_gone : length new.image.items ≤ length image.items
+  none_gone = by_come come image_is
+    where
+      by_come : (b : Bool) → image.items ≡ (if b then extended count new.image.items else new.image.items) → length new.image.items ≤ length image.items
+      by_come true is = omega (arith, ap (λ (l : List Sector). length l) is, length-extended count new.image.items)
+      by_come false is = omega (arith, ap (λ (l : List Sector). length l) is)
+
+  told_still : (memory_report left).sectors ≡ (memory_report old).sectors
+  told_still = omega (arith, tells, none_gone, same_size, size)
+
+  may_grow : IsHonest left → Grows count (memory_now old) (memory_now left)
+  may_grow = wide_grows had count old new left noted goes_back refl stays come image_is
+
+  pub widened_none : Widened count false old left
+  widened_none = record {
+    sectors = λ f. absurd (cc f);
+    sectors_err = λ f. told_still;
+    honest = wide_honest had count old new left noted goes_back refl stays;
+    extends = λ f. absurd (cc f);
+    grows = may_grow;
+    synced = λ f. absurd (cc f);
+    ledger = wide_ledger had count old new left noted goes_back refl stays;
+    time = λ h. wide_time had count old new left noted goes_back refl stays (may_grow h);
+    reached = λ f. absurd (cc f);
+  }
+
+  pub unwidened_state : Ends false (Extending had count) old new → come ≡ comes_by (next_verdict (memory_state old)) (count - length new.image.items) → Enlarged count same (memory_state old) (memory_state left) false
+  unwidened_state ends come_is =
+      let verdict = next_verdict (memory_state old) in
+      let told_new : (memory_report left).sectors ≡ (memory_report new).sectors = told_still ∙ sym (noted_sectors false (Extending had count) old new noted) in
+      let image_by : image.items ≡ (if comes_by verdict (count - length new.image.items) then extended count new.image.items else new.image.items) =
+      image_is ∙ ap (λ (b : Bool). if b then extended count new.image.items else new.image.items) come_is in
+      inr (record {
+        running = noted.running;
+        goes = ends.fails;
+        after = (λ i. record (memory_state new) { now = record (memory_now new) { image = image_by i }; told = told_new i })
+            ∙ ap (grown_by verdict count) (ended_state false (Extending had count) old new ends ∙ ap (ended verdict) (plain false (memory_state old)));
+      })
+
+-- ---- what is put behind the image
+
+pub behind_is : (more count : ℕ) (come : Bool) (image : List Sector) → more ≡ count - length image → image ++ replicate (if come then more else 0) Damaged ≡ (if come then extended count image else image)
+behind_is more count true image is = ap (λ (n : ℕ). image ++ replicate n Damaged) is
+behind_is more count false image is = append-nil image
 
 -- ---- with room made for the sectors before the call
 
 pub widened_from : (count : ℕ) (finished : Bool) (old : MemoryMachine) (image : Vec Sector Global) (new : MemoryMachine) → image.items ≡ old.image.items → Widened count finished (record old { image = image }) new → Widened count finished old new
 widened_from count finished old image new is w =
     let now : memory_now (record old { image = image }) ≡ memory_now old = λ i. record (memory_now old) { image = is i } in
-    let report : memory_report (record old { image = image }) ≡ memory_report old = λ i. record (memory_report old) { sectors = cond old.attached (min (length (is i)) (2 ^ 32 - 1)) 0 } in
+    let report : memory_report (record old { image = image }) ≡ memory_report old = λ i. record (memory_report old) { sectors = told_of old.told (length (is i)) } in
     record {
       sectors = λ f. w.sectors f ∙ ap (λ r. max r.sectors count) report;
       sectors_err = λ f. w.sectors_err f ∙ ap (λ r. r.sectors) report;
@@ -183,10 +235,4 @@ widened_from count finished old image new is w =
     }
 
 pub room_for : (old : MemoryMachine) (image : Vec Sector Global) → image.items ≡ old.image.items → memory_state (record old { image = image }) ≡ memory_state old
-room_for old image is = λ i. record (memory_state old) { now = record (memory_now old) { image = is i } }
-
-pub unwidened_state : (had count : ℕ) (old : MemoryMachine) (image : Vec Sector Global) (new : MemoryMachine) → image.items ≡ old.image.items → Fails false (Extending had count) (record old { image = image }) new → Calls false (grown count) same (memory_state old) (memory_state new) false
-unwidened_state had count old image new is failed =
-    let ready : MemoryMachine = record old { image = image } in
-    subst (λ (s : DiskState). Calls false (grown count) same s (memory_state new) false) (room_for old image is)
-    (failed_exactly false (Extending had count) ready new (grown count (noted false (memory_state ready))) (noted false (memory_state ready)) (plain false (memory_state ready)) failed)
+room_for old image is = λ i. record (memory_state old) { now = record (memory_now old) { image = is i }; told = told_of old.told (length (is i)) }

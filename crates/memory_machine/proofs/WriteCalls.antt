@@ -1,5 +1,5 @@
 -- What a noted write is to the layers above.
-use Rattle.std.proofs.Common.{◌≡◌, ◌⊎◌, inl, inr, ⊎_elim, ℕ, ◌+◌, ◌-◌, ◌/◌, ◌^◌, ◌<◌, ◌≤◌, min, Bool, false, cond, List, [], ◌∷◌, ◌++◌, length, take, drop, Vec, refl, sym, ◌∙◌, ap, subst, arith}
+use Rattle.std.proofs.Common.{◌≡◌, ◌⊎◌, inl, inr, ⊎_elim, ℕ, ◌+◌, ◌-◌, ◌/◌, ◌<◌, ◌≤◌, Bool, false, List, [], ◌∷◌, ◌++◌, length, take, drop, Vec, refl, sym, ◌∙◌, ap, subst, arith}
 use Rattle.std.specs.Prelude.{IsTrue, if◌then◌else◌}
 use Rattle.std.specs.declared.alloc.Global.{Global}
 use Rattle.std.proofs.lemmas.List.{append-nil, take_all, length-take, length-drop, get_or-take, get_or-drop}
@@ -12,7 +12,7 @@ use Rattle.memory_machine.specs.declared.memory.MemoryMachine.{MemoryMachine}
 use Rattle.sector_disk.specs.Image.{sector_at, stand, outside, IsWorn, weak}
 use Rattle.sector_disk.specs.Machine.{Tears, Writes, wrote}
 use Rattle.memory_machine.specs.Past.{undone, before, written_by}
-use Rattle.memory_machine.specs.Memory.{memory_now, memory_report, memory_ledger, IsHonest, Notes, Stood, IsWriting}
+use Rattle.memory_machine.specs.Memory.{told_of, memory_now, memory_report, memory_ledger, IsHonest, Notes, Stood, IsWriting}
 use Rattle.sector_disk.proofs.Wear.{length-lay, lay_other, lay_in, length-stand, stand_other, stand_worn, stand_outside, outside_cases}
 use Rattle.memory_machine.proofs.Steps.{IsHurt, elapses_push, reaches_push, noted_step, noted_calls, noted_syncs, noted_before, flag_of, noted_worn, noted_honest, noted_elsewhere, noted_size}
 use Rattle.memory_machine.proofs.Calls.{noted_ledger}
@@ -105,8 +105,8 @@ module _ (first : ℕ) (copy : Vec ℕ Global) (olds : Vec Sector Global) (done 
 
   sectors_are : (memory_report end).sectors ≡ (memory_report old).sectors
   sectors_are =
-      ap (λ (m : MemoryMachine). cond m.attached (min (length end.image.items) (2 ^ 32 - 1)) 0) (rest ∙ noted_rest)
-      ∙ ap (λ (n : ℕ). cond old.attached (min n (2 ^ 32 - 1)) 0) end_size
+      ap (λ (m : MemoryMachine). told_of m.told (length end.image.items)) (rest ∙ noted_rest)
+      ∙ ap (told_of old.told) end_size
     where
       noted_rest : record new { image = end.image; written = end.written; waiting = end.waiting; stopped = end.stopped } ≡ record old { image = end.image; past = new.past; honest = new.honest; synced = new.synced; written = end.written; waiting = end.waiting; stopped = end.stopped }
       noted_rest = ap (λ (m : MemoryMachine). record m { image = end.image; written = end.written; waiting = end.waiting; stopped = end.stopped }) noted.rest

@@ -1,7 +1,7 @@
 -- A machine in memory as the layers above see it, and what one call notes.
-use Rattle.std.specs.Prelude.{◌≡◌, ◌⊎◌, ◌<◌, ◌≤◌, IsTrue, ℕ, ◌-◌, ◌/◌, ◌^◌, Bool, true, false, ◌&&◌, if◌then◌else◌, List, [], ◌∷◌, ◌++◌, length, take, drop, min, max, replicate, count_by, Option, None, Some, IfSome, Vec}
+use Rattle.std.specs.Prelude.{◌≡◌, ◌⊎◌, ◌<◌, ◌≤◌, IsTrue, ℕ, ◌-◌, ◌/◌, ◌^◌, Bool, true, false, ◌&&◌, List, [], ◌∷◌, ◌++◌, length, take, drop, min, max, replicate, count_by, Option, None, Some, IfSome, Vec}
 use Rattle.std.proofs.Common.{arith}
-use Rattle.std.proofs.lemmas.Bool.{cond_both, and_parts, leb-true}
+use Rattle.std.proofs.lemmas.Bool.{and_parts, leb-true}
 use Rattle.std.specs.declared.alloc.Global.{Global}
 use Rattle.sector_disk.specs.declared.sector.Sector.{Sector}
 use Rattle.sector_disk.specs.declared.sector.Sector.TheVariants.{Damaged}
@@ -15,13 +15,18 @@ use Rattle.memory_machine.specs.declared.event.Event.{Event}
 use Rattle.memory_machine.specs.declared.memory.MemoryMachine.{MemoryMachine}
 use Rattle.sector_disk.specs.Image.{Windows, longest_run, IsShort, AreShort}
 use Rattle.memory_machine.specs.Windows.{is_short, all_weak}
-use Rattle.memory_machine.specs.State.{DiskState, Line, Faults, call_goes, one_more}
+use Rattle.memory_machine.specs.State.{DiskState, Line, Faults, next_verdict, call_goes, one_more}
+use Rattle.memory_machine.specs.Events.{is_stop}
 use Rattle.memory_machine.specs.Past.{LeftSince, begins_at, due, hurt_all, attaches_in, written_in, syncs_in}
 use Rattle.sector_disk.specs.Machine.{Report, Moment, Ledger, Elapses, Reaches, Utters, Says, Tears, Writes, wrote, synced_once, Wears, Extends, Grows, Before, Attaches, IsSynced, asked_for, Trusts}
 
+-- the number of sectors that is told, of an image of so many
+abbrev pub told_of : (told size : ℕ) → ℕ
+told_of told size = min told (min size (2 ^ 32 - 1))
+
 abbrev pub memory_report : MemoryMachine → Report
 memory_report m = record {
-  sectors = if m.attached then min (length m.image.items) (2 ^ 32 - 1) else 0;
+  sectors = told_of m.told (length m.image.items);
   fault_place = m.fault_place;
   disk_faults = m.disk_faults;
   input_faults = m.input_faults;
@@ -53,9 +58,6 @@ IsHonest m = IsTrue (memory_honest m)
 
 abbrev pub has_stopped : MemoryMachine → Bool
 has_stopped m = m.stopped
-
-abbrev pub is_attached : MemoryMachine → Bool
-is_attached m = m.attached
 
 abbrev pub memory_faults : MemoryMachine → Faults
 memory_faults m = record { place = m.fault_place; disk = m.disk_faults; input = m.input_faults; output = m.output_faults }
@@ -91,7 +93,7 @@ abbrev pub memory_state : MemoryMachine → DiskState
 memory_state m = record {
   now = memory_now m;
   ledger = memory_ledger m;
-  attached = is_attached m;
+  told = (memory_report m).sectors;
   faults = memory_faults m;
   line = memory_line m;
   events = memory_events m;
@@ -104,7 +106,7 @@ memory_state m = record {
   starved = memory_starved m;
 }
 
--- A call is noted, after the hurts before it.
+-- A call is noted, after the hurts before it, and may have stopped the machine.
 pub record Notes (settle : Bool) (work : Work) (old new : MemoryMachine) : Type 0 where
   pub running : old.stopped ≡ false
   pub hurts : Vec Hurt Global
@@ -113,7 +115,7 @@ pub record Notes (settle : Bool) (work : Work) (old new : MemoryMachine) : Type 
   pub past : new.past.items ≡ old.past.items ++ record { hurts = hurts; present = old.present; next = old.next; said = length old.said.items; synced = (memory_now old).synced; work = work } ∷ []
   pub honest : new.honest ≡ (memory_honest old && all_weak old.present old.next hurts.items)
   pub synced : new.synced ≡ (memory_now old).synced
-  pub rest : new ≡ record old { image = new.image; past = new.past; honest = new.honest; synced = new.synced }
+  pub rest : new ≡ record old { image = new.image; past = new.past; honest = new.honest; synced = new.synced; stopped = new.stopped }
 
 -- A call is refused with nothing done.
 pub record Refuses (old new : MemoryMachine) : Type 0 where
@@ -121,12 +123,18 @@ pub record Refuses (old new : MemoryMachine) : Type 0 where
   pub rest : new ≡ record old { past = new.past; starved = new.starved }
   pub cause : ((old.stopped ≡ true) × (new.starved ≡ old.starved)) ⊎ ((old.stopped ≡ false) × (new.starved ≡ one_more old.starved))
 
--- A call of a machine in memory fails: it is refused, or noted and failed by an event.
+-- A call is noted, and failed or stopped by an event.
+pub record Ends (settle : Bool) (work : Work) (old new : MemoryMachine) : Type 0 where
+  pub noted : Notes settle work old new
+  pub fails : call_goes (memory_state old) ≡ false
+  pub stops : new.stopped ≡ is_stop (next_verdict (memory_state old))
+
+-- A call of a machine in memory fails: it is refused, or ends so.
 abbrev pub Fails : Bool → Work → MemoryMachine → MemoryMachine → Type 0
-Fails settle work old new = Refuses old new ⊎ (Notes settle work old new × (call_goes (memory_state old) ≡ false))
+Fails settle work old new = Refuses old new ⊎ Ends settle work old new
 
 pub memory_small : (m : MemoryMachine) → (memory_report m).sectors < 2 ^ 32
-memory_small m = cond_both m.attached (min (length m.image.items) (2 ^ 32 - 1)) 0 (λ n. n < 2 ^ 32) (λ _. omega arith) (λ _. omega arith)
+memory_small m = omega arith
 
 short_of : (run : Option WeakRun) → IsTrue (is_short run) → IfSome run IsShort
 short_of None short = tt
@@ -138,7 +146,7 @@ memory_short m honest =
     record { present = short_of m.present both.0; next = short_of m.next both.1 }
 
 pub memory_sized : (m : MemoryMachine) → (memory_report m).sectors ≤ length (memory_now m).image
-memory_sized m = cond_both m.attached (min (length m.image.items) (2 ^ 32 - 1)) 0 (λ n. n ≤ length m.image.items) (λ _. omega arith) (λ _. omega arith)
+memory_sized m = omega arith
 
 -- the work of a write, with what it is written over
 abbrev pub IsWriting : List Sector → ℕ → List ℕ → ℕ → Bool → Work → Type 0
@@ -200,7 +208,8 @@ pub record Flushed (finished : Bool) (old new : MemoryMachine) : Type 0 where
   pub synced : IsTrue finished → IsSynced (memory_now new)
   pub reached : IsTrue finished → Reached Wears old new
 
--- The image has so many sectors at least, behind a sync, or a call that isn't done has changed nothing but wear.
+-- The image has so many sectors at least, behind a sync, and they are told. A call that isn't done has given it them or
+-- changed nothing but wear, and tells no more than before.
 pub record Widened (count : ℕ) (finished : Bool) (old new : MemoryMachine) : Type 0 where
   pub sectors : IsTrue finished → (memory_report new).sectors ≡ max (memory_report old).sectors count
   pub sectors_err : finished ≡ false → (memory_report new).sectors ≡ (memory_report old).sectors
@@ -239,14 +248,13 @@ pair_at first = record { first = first; count = 2 }
 abbrev pub first_window : Option WeakRun → Windows
 first_window present = record { present = present; next = None }
 
--- A machine over this image, these windows and this line of weak runs, of which nothing was asked yet: nothing is said,
+-- A machine over this image, these windows and this line of weak runs, of which nothing was asked yet: nothing is said or told,
 -- no fault is counted or told, no call is noted, and no write waits for a sync.
 pub record IsMade (image : List Sector) (windows : Windows) (line : Line) (events : List Event) (input : List ℕ) (m : MemoryMachine) : Type 0 where
   pub now : memory_now m ≡ record { image = image; windows = windows; said = []; time = 0; synced = 0 }
   pub names : memory_line m ≡ line
   pub ledger : memory_ledger m ≡ record { input = input; attaches = []; written = 0; syncs = 0 }
   pub report : memory_report m ≡ record { sectors = 0; fault_place = 0; disk_faults = 0; input_faults = 0; output_faults = 0 }
-  pub unattached : is_attached m ≡ false
   pub starved : memory_starved m ≡ 0
   pub running : has_stopped m ≡ false
   pub calls : memory_calls m ≡ 0

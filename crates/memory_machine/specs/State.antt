@@ -1,6 +1,5 @@
 -- A machine in memory as its events see it, and what each call makes of it.
-use Rattle.std.specs.Prelude.{◌≡◌, ◌⊎◌, ℕ, ◌+◌, ◌-◌, ◌/◌, ◌^◌, ◌==◌, Bool, true, false, not, ◌&&◌, if◌then◌else◌, List, ◌++◌, length, min, replicate, Option, Some, None, unwrap_or}
-use Rattle.std.specs.List.{list_any}
+use Rattle.std.specs.Prelude.{◌≡◌, ◌⊎◌, ℕ, ◌+◌, ◌-◌, ◌/◌, ◌^◌, ◌==◌, Bool, true, false, ◌&&◌, if◌then◌else◌, List, ◌++◌, length, min, max, replicate, Option, Some, None, unwrap_or}
 use Rattle.sector_disk.specs.declared.sector.Sector.TheVariants.{Damaged}
 use Rattle.sector_disk.specs.declared.sector.WeakRun.{WeakRun}
 use Rattle.memory_machine.specs.declared.past.Hurt.{Hurt}
@@ -10,7 +9,7 @@ use Rattle.memory_machine.specs.declared.event.Event.{Event}
 use Rattle.memory_machine.specs.declared.event.Verdict.{Verdict}
 use Rattle.sector_disk.specs.Image.{stand, settled, extended}
 use Rattle.memory_machine.specs.Windows.{is_short, all_weak, weak_run_at}
-use Rattle.memory_machine.specs.Events.{verdict_of, fails_call, piece_of, stood_by, is_going, is_stop}
+use Rattle.memory_machine.specs.Events.{verdict_of, call_verdict_of, comes_by, piece_of, stood_by, is_going, is_stop}
 use Rattle.memory_machine.specs.Past.{due, hurt_all}
 use Rattle.sector_disk.specs.Machine.{Moment, Ledger, asked_for, wrote, synced_once, took}
 
@@ -42,14 +41,14 @@ pub record Faults : Type 0 where
   pub input : ℕ
   pub output : ℕ
 
--- All of a machine but its earlier moments: what is there, what was asked, whether an image was attached, the faults,
+-- All of a machine but its earlier moments: what is there, what was asked, the number of sectors that is told, the faults,
 -- what is to happen, how many calls were noted, how many writes have begun at each sector, how many sectors writes have
 -- put, the first sector of the first write since the last sync, whether it has stopped, whether the hurts lay in the windows and the runs before the last call were short, and
 -- how often a growth was refused.
 pub record DiskState : Type 0 where
   pub now : Moment
   pub ledger : Ledger
-  pub attached : Bool
+  pub told : ℕ
   pub faults : Faults
   pub line : Line
   pub events : List Event
@@ -69,9 +68,17 @@ is_honest s = s.allowed && (is_short s.now.windows.present && is_short s.now.win
 abbrev pub first_waiting : DiskState → ℕ
 first_waiting s = unwrap_or s.waiting 0
 
--- no event fails the next call, which isn't a write
+-- what becomes of the next call, which isn't a write
+abbrev pub next_verdict : DiskState → Verdict
+next_verdict s = call_verdict_of s.events s.calls
+
+-- no event fails or stops it
 abbrev pub call_goes : DiskState → Bool
-call_goes s = not (list_any (λ event. fails_call event s.calls) s.events)
+call_goes s = is_going (next_verdict s)
+
+-- a call that fails stops the machine, or not
+abbrev pub ended : Verdict → DiskState → DiskState
+ended verdict s = record s { stopped = is_stop verdict }
 
 -- what becomes of the next call, which is a write of so many sectors from one on
 abbrev pub write_verdict : ℕ → ℕ → DiskState → Verdict
@@ -95,8 +102,8 @@ asked path how s = record s { ledger = asked_for s.ledger path how }
 
 -- and finds or makes its image, behind a sync
 abbrev pub opened : Attach → DiskState → DiskState
-opened Old s = record s { now = record s.now { windows = record { present = s.now.windows.present; next = None }; synced = s.calls }; attached = true; waiting = None }
-opened (New count) s = record s { now = record s.now { image = replicate count Damaged; windows = record { present = None; next = None }; synced = s.calls }; attached = true; waiting = None }
+opened Old s = record s { now = record s.now { windows = record { present = s.now.windows.present; next = None }; synced = s.calls }; told = min (length s.now.image) (2 ^ 32 - 1); waiting = None }
+opened (New count) s = record s { now = record s.now { image = replicate count Damaged; windows = record { present = None; next = None }; synced = s.calls }; told = count; waiting = None }
 
 -- a write that waits behind those that wait
 abbrev pub waits_behind : Option ℕ → ℕ → Option ℕ
@@ -122,9 +129,13 @@ put_by verdict first bytes = put_sectors first bytes (stood_by verdict (length b
 abbrev pub flushed : DiskState → DiskState
 flushed s = record s { now = record s.now { synced = s.calls }; ledger = synced_once s.ledger; waiting = None }
 
--- the image has so many sectors at least, behind a sync
+-- the image has so many sectors at least, behind a sync, and they are told
 abbrev pub grown : (count : ℕ) → DiskState → DiskState
-grown count s = record s { now = record s.now { image = extended count s.now.image; synced = s.calls }; waiting = None }
+grown count s = record s { now = record s.now { image = extended count s.now.image; synced = s.calls }; told = max s.told count; waiting = None }
+
+-- or it may have them where an extend fails, behind no sync and untold
+abbrev pub grown_by : Verdict → (count : ℕ) → DiskState → DiskState
+grown_by verdict count s = record s { now = record s.now { image = if comes_by verdict (count - length s.now.image) then extended count s.now.image else s.now.image } }
 
 -- the next run is named, behind a sync
 abbrev pub healed : (longest : ℕ) → DiskState → DiskState
@@ -176,19 +187,23 @@ pub record Runs (going finished : Bool) (old new noted : DiskState) : Type 0 whe
   pub goes : going ≡ finished
   pub after : new ≡ noted
 
--- Where a call answers Ok it is noted and done, and counts no fault. One that fails rests, or is noted and failed by an
--- event, and counts its fault.
+-- Where a call answers Ok it is noted and done, and counts no fault. One that fails rests, or is noted and failed or
+-- stopped by an event, and counts its fault.
 abbrev pub Exactly : Bool → (done failed : DiskState) → (fault : DiskState → DiskState) → DiskState → DiskState → Bool → Type 0
 Exactly going done failed fault old new true = Runs going true old new done
 Exactly going done failed fault old new false = Rests fault old new ⊎ Runs going false old new (fault failed)
 
 -- so is a call that isn't a write
 abbrev pub Calls : Bool → (does fault : DiskState → DiskState) → DiskState → DiskState → Bool → Type 0
-Calls settle does fault old new ok = Exactly (call_goes old) (does (noted settle old)) (noted settle old) fault old new ok
+Calls settle does fault old new ok = Exactly (call_goes old) (does (noted settle old)) (ended (next_verdict old) (noted settle old)) fault old new ok
 
 -- and an attach, which is asked for also where an event fails it
 abbrev pub Attached : List ℕ → Attach → (fault : DiskState → DiskState) → DiskState → DiskState → Bool → Type 0
-Attached path how fault old new ok = Exactly (call_goes old) (opened how (asked path how (noted false old))) (asked path how (noted false old)) fault old new ok
+Attached path how fault old new ok = Exactly (call_goes old) (opened how (asked path how (noted false old))) (ended (next_verdict old) (asked path how (noted false old))) fault old new ok
+
+-- and an extend, whose sectors may come also where an event fails it
+abbrev pub Enlarged : ℕ → (fault : DiskState → DiskState) → DiskState → DiskState → Bool → Type 0
+Enlarged count fault old new ok = Exactly (call_goes old) (grown count (noted false old)) (ended (next_verdict old) (grown_by (next_verdict old) count (noted false old))) fault old new ok
 
 -- and a write, of which some first sectors stand also where an event fails it
 abbrev pub Written : ℕ → List ℕ → (fault : DiskState → DiskState) → DiskState → DiskState → Bool → Type 0

@@ -1,7 +1,7 @@
 //! What is to happen to a machine in memory.
-ghost use Rattle.std.specs.Prelude.{◌≡◌, ◌+◌, ◌<◌, ◌≤◌, ◌==◌, nat_lt, true};
+ghost use Rattle.std.specs.Prelude.{if◌then◌else◌, ◌≡◌, ◌+◌, ◌<◌, ◌≤◌, ◌==◌, nat_lt, true};
 ghost use Rattle.std.specs.List.{list_any};
-ghost use Rattle.memory_machine.specs.Events.{fails_call, is_nth_at, verdict_at, verdict_of, counts_at, hurt_by, piece_of, stood_by, is_going};
+ghost use Rattle.memory_machine.specs.Events.{call_verdict_at, call_verdict_of, comes_by, is_nth_at, verdict_at, verdict_of, counts_at, hurt_by, piece_of, stood_by, is_going, is_stop};
 
 /// When a sector is hurt.
 #[derive(Clone, Copy)]
@@ -21,8 +21,11 @@ pub enum When {
 #[derive(Clone, Copy)]
 pub enum Event {
     /// This call of all fails. If it is a write, its first `stand` sectors stand, or all where it has no more. If it is
-    /// a `take`, a `say` or an `extend`, nothing is taken, said or put behind the image.
+    /// an `extend` that puts no more than `stand` sectors behind the image, they are there, damaged and untold; one that
+    /// puts more puts none, since they come together. Any other call does nothing: nothing is taken or said.
     FailCall { call: u64, stand: u32 },
+    /// The machine stops in this call of all, which leaves what a `FailCall` of it leaves.
+    StopCall { call: u64, stand: u32 },
     /// The nth write that begins at the sector `first` fails, with its first `stand` sectors standing.
     FailIn { first: u32, nth: u32, stand: u32 },
     /// The machine stops in the write that would put more than `after` sectors, those of all writes of the run
@@ -36,7 +39,7 @@ pub enum Event {
     Pieces { most: usize },
 }
 
-/// What becomes of a write.
+/// What becomes of a call.
 #[derive(Clone, Copy, PartialEq)]
 pub enum Verdict {
     Goes,
@@ -78,14 +81,44 @@ impl Write {
     }
 }
 
-impl Event {
-    // A call that isn't a write fails.
-    pub(crate) fn fails_call(&self, calls: u64) -> bool
-        ensures { result ≡ fails_call self.now calls }
+impl Verdict {
+    pub(crate) fn goes(&self) -> bool
+        ensures { result ≡ is_going self.now }
+    {
+        matches!(self, Verdict::Goes)
+    }
+
+    pub(crate) fn stops(&self) -> bool
+        ensures { result ≡ is_stop self.now }
+    {
+        matches!(self, Verdict::Stops(_))
+    }
+
+    // How many of so many new sectors of an extend come.
+    pub(crate) fn coming(&self, more: usize) -> usize
+        ensures exact { result ≡ (if comes_by self.now more then more else 0) }
+        ensures some { result ≤ more }
     {
         match self {
-            Event::FailCall { call, stand: _ } => is_next(*call, calls),
-            _ => false,
+            Verdict::Fails(stand) | Verdict::Stops(stand) if more as u64 > *stand => 0,
+            _ => more,
+        }
+    }
+}
+
+impl Event {
+    // What it says of the call that comes after so many, whichever it is.
+    fn call_verdict(&self, calls: u64) -> Verdict
+        ensures { result ≡ call_verdict_at self.now calls }
+    {
+        match self {
+            Event::FailCall { call, stand } if is_next(*call, calls) => {
+                Verdict::Fails(u64::from(*stand))
+            }
+            Event::StopCall { call, stand } if is_next(*call, calls) => {
+                Verdict::Stops(u64::from(*stand))
+            }
+            _ => Verdict::Goes,
         }
     }
 
@@ -93,9 +126,6 @@ impl Event {
         ensures { result ≡ verdict_at self.now write }
     {
         match self {
-            Event::FailCall { call, stand } if is_next(*call, write.calls) => {
-                Verdict::Fails(u64::from(*stand))
-            }
             Event::FailIn { first, nth, stand } if write.is_nth_at(*first, *nth) => {
                 Verdict::Fails(u64::from(*stand))
             }
@@ -105,7 +135,7 @@ impl Event {
             Event::StopIn { first, nth, stand } if write.is_nth_at(*first, *nth) => {
                 Verdict::Stops(u64::from(*stand))
             }
-            _ => Verdict::Goes,
+            _ => self.call_verdict(write.calls),
         }
     }
 
@@ -170,11 +200,17 @@ pub(crate) fn stood_of(verdict: Verdict, count: usize) -> usize
     }
 }
 
-// A call that isn't a write fails.
-pub(crate) fn fails_at(events: &[Event], calls: u64) -> bool
-    ensures { result ≡ list_any (λ event. fails_call event calls) events.now }
+// So it is of a call that isn't a write, which comes after so many.
+pub(crate) fn call_verdict_of(events: &[Event], calls: u64) -> Verdict
+    ensures { result ≡ call_verdict_of events.now calls }
 {
-    events.iter().any(|event| event.fails_call(calls))
+    for event in events {
+        let verdict = event.call_verdict(calls);
+        if verdict != Verdict::Goes {
+            return verdict;
+        }
+    }
+    Verdict::Goes
 }
 
 // Some event counts the writes that begin at this sector.

@@ -6,13 +6,13 @@ ghost use Rattle.sector_disk.specs.Machine.{GivesAsked, Wears};
 ghost use Rattle.memory_machine.specs.Events.{counts_at};
 ghost use Rattle.memory_machine.specs.Past.{due};
 ghost use Rattle.memory_machine.specs.Windows.{all_weak, is_short};
-ghost use Rattle.memory_machine.specs.State.{Exactly, Calls, Attached, write_verdict, call_goes, put_sectors, waits_behind, noted, flushed, grown, same, spoken, from_first, one_more};
-ghost use Rattle.memory_machine.specs.Memory.{memory_now, memory_report, memory_state, memory_begun, IsWriting, IsAttaching, IsFresh, Notes, Refuses, Fails, Passes, Reached, Spoken, Flushed, Stood, Widened, Opened, NotOpened, IsMade, pair_at, first_window, memory_honest, IsHonest, memory_starved, memory_line, has_short_runs};
+ghost use Rattle.memory_machine.specs.State.{Exactly, Calls, Attached, Enlarged, write_verdict, next_verdict, call_goes, put_sectors, waits_behind, noted, flushed, same, spoken, from_first, one_more};
+ghost use Rattle.memory_machine.specs.Memory.{memory_now, memory_report, memory_state, memory_begun, IsWriting, IsAttaching, IsFresh, Notes, Refuses, Fails, Passes, Reached, Spoken, Flushed, Stood, Widened, Opened, NotOpened, IsMade, pair_at, first_window, has_stopped, memory_honest, IsHonest, memory_starved, memory_line, has_short_runs};
 
 mod calls;
 mod left;
 
-use crate::event::{Event, Verdict, Write, counts_at, fails_at, verdict_of};
+use crate::event::{Event, Verdict, Write, call_verdict_of, counts_at, verdict_of};
 use crate::past::{Hurt, Step, Work, begun_at, due_hurts, hurt_all, stand};
 use crate::windows::{are_weak, is_short};
 use sector_disk::{Attach, Failed, Sector, WeakRun};
@@ -21,8 +21,8 @@ use std::alloc::{AllocError, Global};
 /// The disk, the input and the console in memory, with a list of events that are to happen to them.
 ///
 /// It holds one image under every path, so `attach` finds it whatever the path is, and `Attach::New` makes a new one in
-/// its place. It keeps a record of its calls, from which its moments are told: a call that an event fails is recorded,
-/// one that comes after a stop or is refused memory is not, and does nothing but count its fault. Room for the record
+/// its place. It keeps a record of its calls, from which its moments are told: a call that an event fails or stops is
+/// recorded, one that comes after a stop or is refused memory is not, and does nothing but count its fault. Room for the record
 /// and for what the call keeps is asked for before anything is done. After a stop every call fails, until `again`.
 ///
 /// Sectors that are hurt before a call are hurt whatever becomes of it. A hurt that the open windows don't allow, and a
@@ -45,7 +45,8 @@ pub struct MemoryMachine {
     synced: usize,
     // the first sector of the first write since then
     waiting: Option<u32>,
-    attached: bool,
+    // the number of sectors that is told, where there are so many
+    told: u32,
     // of the calls before: their hurts lay in the windows, whose runs were short
     honest: bool,
     stopped: bool,
@@ -109,7 +110,7 @@ impl MemoryMachine {
             past: Vec::new(alloc),
             synced: 0,
             waiting: None,
-            attached: false,
+            told: 0,
             honest: true,
             stopped: false,
             written: 0,
@@ -218,19 +219,20 @@ impl MemoryMachine {
         Ok(())
     }
 
-    // Notes a call that isn't a write, and fails where an event says so.
+    // Notes a call that isn't a write, and fails or stops where an event says so.
     fn call(&mut self, settle: bool, work: Work) -> Result<(), Failed>
         ensures ok { OnOk result (Notes settle work self.old self.new) }
         ensures err { OnErr result (Fails settle work self.old self.new) }
         ensures goes { OnOk result (call_goes (memory_state self.old) ≡ true) }
-        ensures room { vec_capacity self.new.image ≡ vec_capacity self.old.image }
+        ensures running { OnOk result (has_stopped self.new ≡ false) }
     {
-        let fails = fails_at(&self.events, self.past.len() as u64);
+        let verdict = self.next_verdict();
         self.note(settle, work)?;
-        if fails {
-            Err(Failed { place: 0 })
-        } else {
+        self.stopped = verdict.stops();
+        if verdict.goes() {
             Ok(())
+        } else {
+            Err(Failed { place: 0 })
         }
     }
 
@@ -240,7 +242,7 @@ impl MemoryMachine {
         ensures noted { OnOk result (Notes settle Work.Quiet self.old self.new) }
         ensures reached { OnOk result (Reached Wears self.old self.new) }
         ensures exact { Calls settle same same (memory_state self.old) (memory_state self.new) (is_ok result) }
-        ensures rest { self.new ≡ record self.old { image = self.new.image; past = self.new.past; honest = self.new.honest; synced = self.new.synced; starved = self.new.starved } }
+        ensures rest { self.new ≡ record self.old { image = self.new.image; past = self.new.past; honest = self.new.honest; synced = self.new.synced; starved = self.new.starved; stopped = self.new.stopped } }
     {
         self.call(settle, Work::Quiet)
     }
@@ -249,12 +251,14 @@ impl MemoryMachine {
     fn flush(&mut self) -> bool
         ensures flushed { Flushed result self.old self.new }
         ensures exact { Calls false flushed same (memory_state self.old) (memory_state self.new) result }
-        ensures rest { self.new ≡ record self.old { image = self.new.image; past = self.new.past; honest = self.new.honest; synced = self.new.synced; waiting = self.new.waiting; starved = self.new.starved } }
+        ensures rest { self.new ≡ record self.old { image = self.new.image; past = self.new.past; honest = self.new.honest; synced = self.new.synced; waiting = self.new.waiting; starved = self.new.starved; stopped = self.new.stopped } }
     {
-        let done = !fails_at(&self.events, self.past.len() as u64);
+        let verdict = self.next_verdict();
+        let done = verdict.goes();
         if self.note(false, Work::Syncing { done }).is_err() {
             return false;
         }
+        self.stopped = verdict.stops();
         if done {
             self.synced = self.past.len();
             self.waiting = None;
@@ -266,7 +270,7 @@ impl MemoryMachine {
     fn speak(&mut self, bytes: &[u8]) -> bool
         ensures spoken { Spoken bytes.now result self.old self.new }
         ensures exact { Calls false (spoken bytes.now) same (memory_state self.old) (memory_state self.new) result }
-        ensures rest { self.new ≡ record self.old { image = self.new.image; past = self.new.past; honest = self.new.honest; synced = self.new.synced; starved = self.new.starved; said = self.new.said } }
+        ensures rest { self.new ≡ record self.old { image = self.new.image; past = self.new.past; honest = self.new.honest; synced = self.new.synced; starved = self.new.starved; stopped = self.new.stopped; said = self.new.said } }
     {
         if self.stopped {
             return false;
@@ -315,27 +319,52 @@ impl MemoryMachine {
 
     // Gives the image so many sectors at least, behind a sync, and tells whether it is done. Its caller counts its fault.
     fn widen(&mut self, count: u32) -> bool
-        requires { 0 < (memory_report self.old).sectors }
         ensures widened { Widened count result self.old self.new }
-        ensures exact { Calls false (grown count) same (memory_state self.old) (memory_state self.new) result }
-        ensures rest { self.new ≡ record self.old { image = self.new.image; past = self.new.past; honest = self.new.honest; synced = self.new.synced; waiting = self.new.waiting; starved = self.new.starved } }
+        ensures exact { Enlarged count same (memory_state self.old) (memory_state self.new) result }
+        ensures rest { self.new ≡ record self.old { image = self.new.image; past = self.new.past; honest = self.new.honest; synced = self.new.synced; waiting = self.new.waiting; starved = self.new.starved; told = self.new.told; stopped = self.new.stopped } }
     {
         if self.stopped {
             return false;
         }
-        let had = self.image.len();
-        let more = (count as usize).saturating_sub(had);
+        let more = (count as usize).saturating_sub(self.image.len());
         if self.image.reserve(more).is_err() {
             self.starved = self.starved.saturating_add(1);
             return false;
         }
-        if self.call(false, Work::Extending { had, count }).is_err() {
+        self.enlarge(count, more)
+    }
+
+    // So it is where there is room for so many more sectors. The machine may stop in it.
+    fn enlarge(&mut self, count: u32, more: usize) -> bool
+        requires more { more ≡ count - length self.old.image.items }
+        requires room { vec_len self.old.image + more ≤ vec_capacity self.old.image }
+        ensures widened { Widened count result self.old self.new }
+        ensures exact { Enlarged count same (memory_state self.old) (memory_state self.new) result }
+        ensures rest { self.new ≡ record self.old { image = self.new.image; past = self.new.past; honest = self.new.honest; synced = self.new.synced; waiting = self.new.waiting; starved = self.new.starved; told = self.new.told; stopped = self.new.stopped } }
+    {
+        let had = self.image.len();
+        let told = self.sectors();
+        let verdict = self.next_verdict();
+        if self.note(false, Work::Extending { had, count }).is_err() {
             return false;
         }
-        put_behind(&mut self.image, more);
+        put_behind(&mut self.image, verdict.coming(more));
+        self.stopped = verdict.stops();
+        if !verdict.goes() {
+            self.told = told;
+            return false;
+        }
+        self.told = told.max(count);
         self.synced = self.past.len();
         self.waiting = None;
         true
+    }
+
+    // The number of sectors that is told.
+    fn sectors(&self) -> u32
+        ensures { result ≡ (memory_report self.now).sectors }
+    {
+        self.told.min(count_of(self.image.len()))
     }
 
     // Finds or makes an image, and tells its number of sectors. Its caller counts its fault.
@@ -344,7 +373,7 @@ impl MemoryMachine {
         ensures asked { IfSome result (λ count. GivesAsked how count) }
         ensures unopened { IfNone result (NotOpened path.now how self.old self.new) }
         ensures exact { Attached path.now how same (memory_state self.old) (memory_state self.new) (is_some result) }
-        ensures rest { self.new ≡ record self.old { image = self.new.image; past = self.new.past; honest = self.new.honest; starved = self.new.starved; present = self.new.present; next = self.new.next; attached = self.new.attached; synced = self.new.synced; waiting = self.new.waiting } }
+        ensures rest { self.new ≡ record self.old { image = self.new.image; past = self.new.past; honest = self.new.honest; starved = self.new.starved; present = self.new.present; next = self.new.next; told = self.new.told; synced = self.new.synced; waiting = self.new.waiting; stopped = self.new.stopped } }
     {
         if self.stopped {
             return None;
@@ -356,18 +385,28 @@ impl MemoryMachine {
         if self.call(false, work).is_err() {
             return None;
         }
-        self.attached = true;
         self.synced = self.past.len();
         self.waiting = None;
         self.next = None;
         match how {
-            Attach::Old => Some(count_of(self.image.len())),
+            Attach::Old => {
+                self.told = count_of(self.image.len());
+                Some(self.told)
+            }
             Attach::New(count) => {
                 self.image = fresh;
                 self.present = None;
+                self.told = count;
                 Some(count)
             }
         }
+    }
+
+    // What becomes of the next call, which isn't a write.
+    fn next_verdict(&self) -> Verdict
+        ensures { result ≡ next_verdict (memory_state self.now) }
+    {
+        call_verdict_of(&self.events, self.past.len() as u64)
     }
 
     // What becomes of a write of so many sectors.

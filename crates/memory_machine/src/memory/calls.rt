@@ -2,14 +2,14 @@
 ghost use Rattle.std.specs.Prelude.{◌≡◌, false, true, ◌⊎◌, ◌+◌, ◌-◌, ◌/◌, ◌%◌, ◌^◌, ◌<◌, ◌≤◌, ◌++◌, min, max, drop, refl, length, is_ok, IfOk, IfErr, OnOk, OnErr};
 ghost use Rattle.std.proofs.Common.{inl};
 ghost use Rattle.sector_disk.specs.Image.{longest_run, sector_at};
-ghost use Rattle.memory_machine.specs.State.{Calls, Attached, Written, same, first_waiting, flushed, grown, healed, closed, given, taken, spoken, disk_failed, input_failed, output_failed};
+ghost use Rattle.memory_machine.specs.State.{Calls, Attached, Written, Enlarged, same, first_waiting, flushed, healed, closed, given, taken, spoken, disk_failed, input_failed, output_failed};
 ghost use Rattle.sector_disk.specs.Machine.{Takes, Wears, Utters, Says, OutputCause, Attaches, GivesAsked, asked_for, Writes, Tears, Extends, Grows, DiskCause, InputCause, Names, Settles, Shows, Before, IsSynced, took, wrote, synced_once, place_told};
 ghost use Rattle.memory_machine.specs.Past.{only_at_end};
 ghost use Rattle.memory_machine.specs.Memory.{memory_report, memory_now, memory_ledger, memory_sized, memory_small, memory_state, MemoryTrusts, MemoryElapses, MemoryReaches, IsHonest, memory_calls, memory_left, memory_short};
 ghost use Rattle.memory_machine.specs.History.{memory_history};
 
 use super::MemoryMachine;
-use crate::event::{Verdict, piece_of, stood_of};
+use crate::event::{piece_of, stood_of};
 use crate::windows::run_at;
 use sector_disk::{Attach, Failed, Machine, Sector, Seen};
 
@@ -109,9 +109,7 @@ impl Machine for MemoryMachine {
         let count = bytes.len() / 512;
         let verdict = self.verdict(sector, count);
         let stood = stood_of(verdict, count);
-        let goes = matches!(verdict, Verdict::Goes);
-        let stops = matches!(verdict, Verdict::Stops(_));
-        let done = self.put(sector, bytes, stood, goes, stops);
+        let done = self.put(sector, bytes, stood, verdict.goes(), verdict.stops());
         if !done {
             return Err(self.disk_fault(sector));
         }
@@ -130,7 +128,7 @@ impl Machine for MemoryMachine {
         ensures time { MemoryElapses self.old self.new (Grows sectors (memory_now self.old)) }
         ensures reached { OnOk result (MemoryReaches self.old self.new (Grows sectors (memory_now self.old))) }
         ensures ledger { Unit {0} → memory_ledger self.new ≡ memory_ledger self.old }
-        ensures exact { Calls false (grown sectors) (disk_failed 0) (memory_state self.old) (memory_state self.new) (is_ok result) }
+        ensures exact { Enlarged sectors (disk_failed 0) (memory_state self.old) (memory_state self.new) (is_ok result) }
     {
         if !self.widen(sectors) {
             return Err(self.disk_fault(0));

@@ -9,4 +9,4 @@ pub returns-clause-reached : goal.returns-clause-reached
 returns-clause-reached c = reached_outcome c.args.settle c.args.self.now c.call.new.self c.call.result c.call.ensures.ok
 
 pub returns-clause-exact : goal.returns-clause-exact
-returns-clause-exact c = quiet_calls c.args.settle c.args.self.now c.call.new.self c.call.result c.call.ensures.ok c.call.ensures.err c.call.ensures.goes
+returns-clause-exact c = quiet_calls c.args.settle c.args.self.now c.call.new.self c.call.result c.call.ensures.ok c.call.ensures.err c.call.ensures.goes c.call.ensures.running

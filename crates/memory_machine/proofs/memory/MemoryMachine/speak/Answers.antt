@@ -36,7 +36,7 @@ returns-then-is_err-2-clause-exact c =
 pub returns-clause-exact : goal.returns-clause-exact
 returns-clause-exact c =
     said_all c.args.bytes.now c.args.self.now c.reserve.new.self c.in-Ok.copy c.call.new.self (record c.call.new.self { said = c.append.new.said }) c.reserve.ensures.items
-    (noted_of c.call.result c.if-is_err-2.ensures.value c.call.ensures.ok) (noted_of c.call.result c.if-is_err-2.ensures.value c.call.ensures.goes) refl c.append.ensures
+    (noted_of c.call.result c.if-is_err-2.ensures.value c.call.ensures.ok) (noted_of c.call.result c.if-is_err-2.ensures.value c.call.ensures.goes) (noted_of c.call.result c.if-is_err-2.ensures.value c.call.ensures.running) refl c.append.ensures
 
 pub returns-in_default-clause-exact : goal.returns-in_default-clause-exact
 returns-in_default-clause-exact c = inl (inr (c.if-self.false, λ i. record (memory_state c.args.self.now) { starved = c.saturating_add-self.ensures i }))
