@@ -1,9 +1,9 @@
 -- The sectors of a saved map.
-use Rattle.std.specs.Prelude.{◌≡◌, ℕ, ◌*◌, ◌/◌, ◌%◌, ◌<◌, Bool, ◌&&◌, ◌||◌, List, [], Some, IsFalse, get_or, nat_le, nat_lt}
+use Rattle.std.specs.Prelude.{◌≡◌, ℕ, ◌*◌, ◌/◌, ◌%◌, ◌<◌, ◌-◌, Bool, ◌&&◌, ◌||◌, List, [], Some, IsFalse, get_or, nat_le, nat_lt, if◌then◌else◌}
 use Rattle.volume_layout.specs.declared.layout.Layout.{Layout}
 use Rattle.volume_layout.specs.Layout.{home_a, is_data, map_bits, map_sectors}
 use Rattle.fsd_formats.specs.declared.map_head.MapHead.{MapHead}
-use Rattle.fsd_formats.specs.MapSector.{has_map_bit, read_map_head}
+use Rattle.fsd_formats.specs.MapSector.{has_map_bit, map_sector, read_map_head}
 
 -- the sector is the first home of a name page
 abbrev pub is_first_home : Layout → ℕ → Bool
@@ -20,6 +20,14 @@ pub record MapCounts : Type 0 where
 
 abbrev pub head_of : (epoch index : ℕ) → MapCounts → MapHead
 head_of epoch index counts = record { epoch = epoch; index = index; pages = counts.pages; versions = counts.versions }
+
+-- a sector of the data area is marked where it is free, and the first home of a page where that is spare; no other
+abbrev pub marks : Layout → (free spare : ℕ → Bool) → ℕ → Bool
+marks l free spare s = if is_data l s then free s else is_first_home l s && spare (s - home_a l 0)
+
+-- the sector of this number of such a map
+abbrev pub saved_sector : Layout → (free spare : ℕ → Bool) → (epoch : ℕ) → MapCounts → ℕ → List ℕ
+saved_sector l free spare epoch counts k = map_sector (head_of epoch k counts) (marks l free spare) (map_bits * k)
 
 -- The sectors are a map of that epoch with these counts: each has its head, and only sectors of the data area and first
 -- homes are marked.
