@@ -434,7 +434,7 @@ const STANDS: [(u32, bool); 5] = [
 // anything else.
 fn wrong_extend(alloc: Global, format: &str, count: u32) -> Result<Option<(u32, u32)>, AllocError> {
     let image = with_version(alloc, format)?;
-    for first in [0u32, 4, 8, 16, 720] {
+    for first in [0u32, 4, 720] {
         let call = extend_call(alloc, image.as_slice(), count, first)?;
         for (stand, comes) in STANDS {
             let fail = Event::FailCall { call, stand };
