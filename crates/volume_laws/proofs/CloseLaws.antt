@@ -9,6 +9,7 @@ use Rattle.sector_disk.specs.Image.{IsWorn}
 use Rattle.sector_disk.specs.Machine.{Moment}
 use Rattle.fsd_table.specs.Table.{Telling}
 use Rattle.fsd_files.specs.Answers.{Met, Outcome, force_outcome}
+use Rattle.fsd_files.specs.Disk.{Image}
 use Rattle.fsd_files.specs.Files.{Change}
 use Rattle.fsd_files.specs.declared.reply.Reply.{Reply}
 use Rattle.fsd_files.specs.declared.reply.Reply.TheVariants.{Forced as IsForced}
@@ -20,30 +21,56 @@ use Rattle.fsd_sound.specs.Sound.{IsSound, weak_of}
 use Rattle.fsd_sound.proofs.MountedLaws.{mounted_lasts, mounted_sound}
 use Rattle.volume_contract.specs.Ends.{AnswersAndStands, Closes, EndsForce}
 use Rattle.volume_contract.specs.Order.{IsDeviceRefusal}
-use Rattle.volume_contract.specs.State.{Known, volume_of}
+use Rattle.volume_contract.specs.State.{Known, Stands, forced_of, volume_of}
 use Rattle.volume_laws.specs.State.{IsMemoryOf, state}
 use Rattle.volume_laws.specs.Volume.{VolumeValue}
+use Rattle.volume_laws.proofs.StoreLaws.{IsOn}
 
--- what a force has ended with
-pub closes : (k : Known) (w : VolumeValue) (at : Moment) → AnswersAndStands state IsMemoryOf (λ met. force_outcome (volume_of k)) IsForced [] k w at → Closes k at.image
-closes k w at ends =
-    let after = ends.0 in
-    let volume : forced (volume_of k) ≡ volume_of after = ap (λ (o : Outcome). o.1) ends.1.is in
-    let changes : after.changes ≡ k.changes = ends.1.changes ∙ append-nil k.changes in
-    let none : (volume_of after).unforced ≡ 0 = sym (ap (λ (v : Volume). v.unforced) volume) in
-    let layout : (volume_of after).layout ≡ k.mounted.volume.layout = sym (ap (λ (v : Volume). v.layout) volume) in
-    let telling : telling_of (volume_of after) ≡ telling_of (volume_of k) = sym (ap telling_of volume) in
-    let count : length after.changes - (volume_of after).unforced ≡ length k.changes = omega (arith, none, ap (λ (h : List Change). length h) changes) in
-    let sound = mounted_sound after.mounted after.windows after.changes (length after.changes - (volume_of after).unforced) at.image ends.2.disk in
-    let tells = mounted_lasts after.mounted after.windows after.changes (length after.changes - (volume_of after).unforced) at.image ends.2.disk none in
+-- a volume whose changes are all forced has closed
+pub forced_closes : (k : Known) (w : VolumeValue) (at : Moment) → Stands state IsMemoryOf w k at → (volume_of k).unforced ≡ 0 → Closes k at.image
+forced_closes k w at stands none =
+    let count : forced_of k ≡ length k.changes = omega (arith, none) in
     record {
-      sound = subst (λ (l : Layout). IsSound l k.windows k.changes (length k.changes) at.image) layout
-          (subst (λ (n : ℕ). IsSound (volume_of after).layout k.windows k.changes n at.image) count
-          (subst (λ (h : List Change). IsSound (volume_of after).layout k.windows h (length after.changes - (volume_of after).unforced) at.image) changes
-          (subst (λ (ws : List WeakRun). IsSound (volume_of after).layout ws after.changes (length after.changes - (volume_of after).unforced) at.image) ends.1.windows sound)));
-      tells = λ j worn. ap (λ (l : Layout). told l j) (sym layout) ∙ tells j (subst (λ (ws : List WeakRun). IsWorn (weak_of ws) at.image j) (sym ends.1.windows) worn) ∙ ap (λ (t : Telling). Some t) telling;
-      roots = subst (λ (l : Layout). HasOwnRoots l (weak_of k.windows) at.image) layout (subst (λ (ws : List WeakRun). HasOwnRoots (volume_of after).layout (weak_of ws) at.image) ends.1.windows ends.2.disk.over.own.roots);
+      sound = subst (λ (n : ℕ). IsSound (volume_of k).layout k.windows k.changes n at.image) count (mounted_sound k.mounted k.windows k.changes (forced_of k) at.image stands.disk);
+      tells = mounted_lasts k.mounted k.windows k.changes (forced_of k) at.image stands.disk none;
+      roots = stands.disk.over.own.roots;
     }
+
+-- and so has one with its changes and its table, on the same disk
+pub closes_on : (k after : Known) (i : Image) → IsOn k after → telling_of (volume_of after) ≡ telling_of (volume_of k) → Closes after i → Closes k i
+closes_on k after i on telling closes = record {
+  sound = subst (λ (l : Layout). IsSound l k.windows k.changes (length k.changes) i) on.layout
+      (subst (λ (h : List Change). IsSound (volume_of after).layout k.windows h (length h) i) on.changes
+      (subst (λ (ws : List WeakRun). IsSound (volume_of after).layout ws after.changes (length after.changes) i) on.windows closes.sound));
+  tells = λ j worn. ap (λ (l : Layout). told l j) (sym on.layout) ∙ closes.tells j (subst (λ (ws : List WeakRun). IsWorn (weak_of ws) i j) (sym on.windows) worn) ∙ ap (λ (t : Telling). Some t) telling;
+  roots = subst (λ (l : Layout). HasOwnRoots l (weak_of k.windows) i) on.layout (subst (λ (ws : List WeakRun). HasOwnRoots (volume_of after).layout (weak_of ws) i) on.windows closes.roots);
+}
+
+-- ---- behind a force
+
+module _ (k : Known) (w : VolumeValue) (at : Moment) (ends : AnswersAndStands state IsMemoryOf (λ met. force_outcome (volume_of k)) IsForced [] k w at) where
+  volume_then : forced (volume_of k) ≡ volume_of ends.0
+  volume_then = ap (λ (o : Outcome). o.1) ends.1.is
+
+  pub none_unforced : (volume_of ends.0).unforced ≡ 0
+  none_unforced = sym (ap (λ (v : Volume). v.unforced) volume_then)
+
+  pub forced_on : IsOn k ends.0
+  forced_on =
+      let changes : ends.0.changes ≡ k.changes = ends.1.changes ∙ append-nil k.changes in
+      record {
+        layout = sym (ap (λ (v : Volume). v.layout) volume_then);
+        windows = ends.1.windows;
+        changes = changes;
+        more = omega (arith, none_unforced, ap (λ (h : List Change). length h) changes);
+      }
+
+  pub same_telling : telling_of (volume_of ends.0) ≡ telling_of (volume_of k)
+  same_telling = sym (ap telling_of volume_then)
+
+  -- what it has ended with
+  pub closes : Closes k at.image
+  closes = closes_on k ends.0 at.image forced_on same_telling (forced_closes ends.0 w at ends.2 none_unforced)
 
 -- and a force that fails over a volume that stands is one that the disk failed
 pub ends_device : (T : Type 0) (outcome : Met → Outcome) (reply : Reply) (k : Known) (w : VolumeValue) (at : Moment) (why : Refusal) → EndsForce state IsMemoryOf {T = T} outcome reply k w at (Err why) → IsDeviceRefusal why

@@ -1,6 +1,6 @@
 -- A volume that has nothing to force writes its map, and then says in both copies of its anchor that it was closed: at each
 -- moment its disk is sound, and at the end it has closed.
-use Rattle.std.proofs.Common.{◌≡◌, ◌≢◌, ◌⊎◌, inl, inr, ⊎_elim, ℕ, zero, suc, ◌+◌, ◌-◌, ◌^◌, ◌<◌, ◌≤◌, Bool, true, false, not, ◌&&◌, ◌||◌, cond, List, [], ◌∷◌, length, map, Some, refl, sym, ap, subst, ◌∙◌, arith}
+use Rattle.std.proofs.Common.{◌≡◌, ◌≢◌, ◌⊎◌, inl, inr, ⊎_elim, ℕ, zero, suc, ◌+◌, ◌-◌, ◌^◌, ◌<◌, ◌≤◌, Bool, true, false, not, ◌&&◌, cond, List, [], ◌∷◌, length, map, Some, refl, sym, ap, subst, ◌∙◌, arith}
 use Rattle.std.specs.Prelude.{IsFalse, IsTrue, count_by, nat_le, nat_lt, slice_index_or}
 use Rattle.std.proofs.lemmas.Bool.{and_from, and_parts, both_ways, cases_lt, le-leb, leb-true, lt-ltb, ltb-true, false_from_ne_true, or_left, or_parts}
 use Rattle.std.proofs.lemmas.List.{get_or-map, length-map}
@@ -140,7 +140,7 @@ count_not (flag ∷ flags) =
     ∙ sym (sum_by-cons (λ (b : Bool). cond (not b) 1 0) flag flags)
 
 -- free is a data sector in no version, where none waits
-free_so : (data version waiting : Bool) → data ≡ true → waiting ≡ false → (data && not version && not waiting) ≡ not version
+free_so : (inside version waiting : Bool) → inside ≡ true → waiting ≡ false → (inside && not version && not waiting) ≡ not version
 free_so true true false is none = refl
 free_so true false false is none = refl
 free_so false version waiting is none = absurd (cc is)
@@ -195,9 +195,9 @@ module _ (v : VolumeValue) (k : Known) (old : Moment) (whole : IsWholeVolume v) 
         reached = sym (pages ∙ used_pages);
         versions = lists_long k.mounted.volume.files k.mounted.volume.entries stands.disk.described.lists ∙ stands.fits.versions ∙ sym versions;
         free = λ s is.
-            let data : IsTrue (is_data k.mounted.volume.layout s) = subst (λ (l : Layout). IsTrue (is_data l s)) (sym stands.fits.layout) is in
+            let inside : IsTrue (is_data k.mounted.volume.layout s) = subst (λ (l : Layout). IsTrue (is_data l s)) (sym stands.fits.layout) is in
             sym (marked_data v.layout v.map.sectors v.free_pages s is) ∙ stands.holds.map s
-            ∙ free_so (is_data k.mounted.volume.layout s) (in_version k.mounted.volume s) (waits k.mounted.volume s) data (none_waits s data);
+            ∙ free_so (is_data k.mounted.volume.layout s) (in_version k.mounted.volume s) (waits k.mounted.volume s) inside (none_waits s inside);
         spare = λ page lt.
             sym (marked_home v.layout v.map.sectors v.free_pages (home_a v.layout page) (no_data (home_a v.layout page) (omega (arith, lt))))
             ∙ ap (λ (b : Bool). b && slice_index_or v.free_pages (home_a v.layout page - home_a v.layout 0) false) (first_home page lt)
