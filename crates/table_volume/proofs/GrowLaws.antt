@@ -12,7 +12,6 @@ use Rattle.fsd_bytes.specs.declared.refusal.Refusal.TheVariants as Why
 use Rattle.sector_disk.specs.declared.sector.Sector.{Sector}
 use Rattle.sector_disk.specs.Image.{AreShort, IsWorn, extended, open_damage, sector_at, stand}
 use Rattle.sector_disk.specs.Machine.{Extends, Grows, Holds as HoldsImage, Moment}
-use Rattle.sector_disk.specs.declared.machine.Machine.{Ghosts}
 use Rattle.sector_disk.proofs.Extended.{extended_at, length-extended}
 use Rattle.sector_disk.proofs.Holding.{over_two}
 use Rattle.sector_disk.proofs.Wear.{stand_other, worn_refl}
