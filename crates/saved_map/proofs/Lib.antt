@@ -1,1 +1,5 @@
+pub mod BitLaws
+pub mod LayoutLaws
 pub mod MarkLaws
+pub mod RunLaws
+pub mod SavesLaws
