@@ -3,3 +3,4 @@ pub mod LayoutLaws
 pub mod MarkLaws
 pub mod RunLaws
 pub mod SavesLaws
+pub mod TakingLaws

@@ -73,7 +73,7 @@ module _ (m : Area) (start stop : ℕ) (own : IsOwn m) (some : start < stop) (lo
     differ = one_differs (run_of start (stop - start));
   }
 
-  test : ℕ → Bool
+  abbrev test : ℕ → Bool
   test s = contains m.sectors s || contains (sectors_of (run_of start (stop - start) ∷ [])) s
 
   out_each : (s : ℕ) → (m.from ≤ s → s < m.to → ⊥) → contains (where_free test m.from m.to) s ≡ (contains m.sectors s || in_range start stop s)

@@ -1,5 +1,5 @@
 -- Runs of sectors that are marked, and runs of set bits that are taken in.
-use Rattle.std.proofs.Common.{◌≡◌, ℕ, ◌+◌, ◌-◌, ◌*◌, ◌<◌, ◌≤◌, ⊥, Bool, true, false, cond, not, ◌&&◌, ◌||◌, List, length, get_or, refl, sym, ap, subst, ◌∙◌, inl, inr, arith}
+use Rattle.std.proofs.Common.{◌≡◌, ℕ, ◌+◌, ◌-◌, ◌*◌, ◌<◌, ◌≤◌, Bool, true, false, cond, not, ◌&&◌, ◌||◌, List, length, get_or, refl, sym, ap, subst, ◌∙◌, inl, inr, arith}
 use Rattle.std.specs.Prelude.{nat_le, nat_lt}
 use Rattle.std.proofs.Math.Bool.{or_assoc}
 use Rattle.std.proofs.lemmas.Bool.{and_from, and_parts, both_ways, cases_Bool, cases_lt, le-leb, leb-true, lt-ltb, ltb-true, or_cases, or_left, or_right, true_from_ne_false, cond-true, cond-false}
@@ -126,7 +126,7 @@ module _ (l : Layout) (map : Area) (pages : List Bool) (start stop : ℕ) (kept 
 -- ---- the bits of a map's sector, run after run
 
 module _ (bytes : List ℕ) (at : ℕ) where
-  bit : ℕ → Bool
+  abbrev bit : ℕ → Bool
   bit = has_map_bit bytes
 
   set_before : (n count : ℕ) → n < count → is_set_in_first bytes at count (at + n) ≡ bit n
@@ -230,3 +230,12 @@ module _ (bytes : List ℕ) (at : ℕ) where
         | inl less ↦ set_below s start less
         | inr more ↦ (let there : at + (s - at) ≡ s = omega (arith, more) in subst (λ (t : ℕ). is_set_in_first bytes at start t ≡ false) there (none_at (s - at)))
       ]
+
+-- a run of set bits has the first of them
+pub run_goes_on : (bytes : List ℕ) (start stop : ℕ) → IsFirst map_bits (has_map_bit bytes) start false stop → has_map_bit bytes start ≡ true → start < map_bits → start < stop
+run_goes_on bytes start stop run set less = elim (cases_lt start stop) [
+  | inl more ↦ more
+  | inr past ↦
+      let same : stop ≡ start = omega (arith, past, run.from) in
+      absurd (both_ways (has_map_bit bytes start) (sym (ap (has_map_bit bytes) same) ∙ run.found (omega (arith, same, less))) set)
+]

@@ -58,5 +58,5 @@ IsClear l at bytes = (n : ℕ) → n < map_bits → IsFalse (has_place l (at + n
 
 -- The bytes are a sector of a map with this head.
 pub record IsPart (l : Layout) (head : MapHead) (bytes : List ℕ) : Type 0 where
-  pub head : read_map_head bytes ≡ Some head
+  pub read : read_map_head bytes ≡ Some head
   pub clear : IsClear l (map_bits * head.index) bytes
