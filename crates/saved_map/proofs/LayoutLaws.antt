@@ -39,3 +39,13 @@ data_below l planned =
       | inl none ↦ absurd (eqb-false l.most 0 is none)
       | inr some ↦ some.0
     ]
+
+-- the map has a sector
+pub some_sectors : (l : Layout) → IsPlanned l → 0 < map_sectors l
+some_sectors l planned =
+    let bounds = planned_bounds l planned in
+    by (l.most == 0) refl (omega (arith, bounds.sectors_least))
+  where
+    by : (b : Bool) → (l.most == 0) ≡ b → 88 ≤ l.sectors → 0 < div_ceil (cond b l.sectors l.most) map_bits
+    by true is some = omega (arith, some)
+    by false is some = let more = eqb-false l.most 0 is in omega (arith, more)

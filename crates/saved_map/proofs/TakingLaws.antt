@@ -20,7 +20,7 @@ use Rattle.saved_map.proofs.RunLaws.{IsReleased, below, beyond, inside, is_insid
 is_home : (l : Layout) (s : ℕ) → is_first_home l s ≡ true → (home_a l 0 ≤ s) × (s < home_a l l.pages)
 is_home l s is = let both = and_parts (nat_le (home_a l 0) s) (nat_lt s (home_a l l.pages)) is in (leb-true (home_a l 0) s both.0, ltb-true s (home_a l l.pages) both.1)
 
-home_is : (l : Layout) (s : ℕ) → home_a l 0 ≤ s → s < home_a l l.pages → is_first_home l s ≡ true
+pub home_is : (l : Layout) (s : ℕ) → home_a l 0 ≤ s → s < home_a l l.pages → is_first_home l s ≡ true
 home_is l s low high = and_from (nat_le (home_a l 0) s) (nat_lt s (home_a l l.pages)) (le-leb (home_a l 0) s low) (lt-ltb s (home_a l l.pages) high)
 
 in_data : (l : Layout) (s : ℕ) → is_data l s ≡ true → (data_start l ≤ s) × (s < l.sectors)

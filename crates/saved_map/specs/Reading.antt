@@ -1,5 +1,5 @@
 -- A saved map as it is read.
-use Rattle.std.specs.Prelude.{◌≡◌, ◌⊎◌, ℕ, ⊥, ◌+◌, ◌*◌, ◌<◌, ◌≤◌, ◌&&◌, Bool, false, List, [], length, get_or, Option, Some, None, nat_lt, slice_index_or}
+use Rattle.std.specs.Prelude.{◌≡◌, ◌⊎◌, ℕ, ◌+◌, ◌*◌, ◌<◌, ◌≤◌, ◌&&◌, Bool, false, List, [], length, get_or, Option, Some, None, nat_lt, slice_index_or}
 use Rattle.volume_layout.specs.declared.layout.Layout.{Layout}
 use Rattle.volume_layout.specs.Layout.{data_start, home_a, map_bits, map_sectors, map_start, most_of}
 use Rattle.fsd_formats.specs.declared.anchor.Anchor.{Anchor}

@@ -1,5 +1,5 @@
 //! A saved map as it is read.
-ghost use Rattle.std.specs.Prelude.{◌≡◌, ◌↔◌, ◌<◌, ◌≤◌, ◌*◌, ◌∷◌, [], ℕ, ⊥, List, Ok, None, Some, IfOk, IfSome, IsTrue, false};
+ghost use Rattle.std.specs.Prelude.{◌≡◌, ◌↔◌, ◌<◌, ◌≤◌, ◌*◌, ◌∷◌, [], ℕ, List, Ok, None, Some, IfOk, IfSome, IsTrue, true, false};
 ghost use Rattle.volume_layout.specs.Layout.{map_bits, map_sectors, map_start, IsPlanned};
 ghost use Rattle.fsd_formats.specs.declared.map_head.MapHead.{MapHead};
 ghost use Rattle.fsd_formats.specs.SavedMap.{is_set_in};

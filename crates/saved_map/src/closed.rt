@@ -1,5 +1,5 @@
 //! Whether a volume was closed in an epoch.
-ghost use Rattle.std.specs.Prelude.{◌≡◌, ◌↔◌, ◌<◌, ℕ, ⊥, Ok, Some, IfOk, IsTrue};
+ghost use Rattle.std.specs.Prelude.{◌≡◌, ◌↔◌, ◌<◌, Ok, Some, true, false, IfOk, IsTrue};
 ghost use Rattle.sector_disk.specs.Calls.{OnlyReads, device_in, failed_at};
 ghost use Rattle.fsd_formats.specs.Anchors.{read_closed};
 ghost use Rattle.fsd_sound.specs.Saved.{IsClosedAt};
