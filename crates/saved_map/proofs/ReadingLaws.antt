@@ -1,18 +1,19 @@
 -- A saved map that is read sector by sector.
-use Rattle.std.proofs.Common.{◌≡◌, ◌⊎◌, ℕ, zero, suc, ◌+◌, ◌-◌, ◌*◌, ◌/◌, ◌%◌, ◌<◌, ◌≤◌, Bool, true, false, ◌&&◌, ◌||◌, List, [], ◌∷◌, ◌++◌, length, map, get_or, Option, Some, None, refl, sym, ap, subst, ◌∙◌, inl, inr, arith}
-use Rattle.std.specs.Prelude.{◌==◌, nat_lt, option_and_then}
+use Rattle.std.proofs.Common.{◌≡◌, ◌⊎◌, ℕ, zero, suc, ◌+◌, ◌-◌, ◌*◌, ◌/◌, ◌%◌, ◌<◌, ◌≤◌, Bool, true, false, cond, not, replicate, Result, Ok, Err, ◌&&◌, ◌||◌, List, [], ◌∷◌, ◌++◌, length, map, get_or, Option, Some, None, refl, sym, ap, subst, ◌∙◌, inl, inr, arith}
+use Rattle.std.specs.Prelude.{◌==◌, IfOk, IfSome, nat_lt, option_and_then}
 use Rattle.std.specs.Int.{bit_at}
 use Rattle.std.specs.List.{range_with_len}
 use Rattle.std.proofs.Math.Bool.{and-true}
 use Rattle.std.proofs.lemmas.Bool.{both_ways, cases_Bool, cases_lt, cond-false, cond-true, le-ltb, lt-ltb, or_from, false_from_ne_true}
-use Rattle.std.proofs.lemmas.List.{get_or_append_left, get_or_past, get_or_push, length-append}
+use Rattle.std.proofs.lemmas.List.{get_or_append_left, get_or_past, get_or_push, length-append, length-replicate}
 use Rattle.std.proofs.lemmas.Nat.Bits.{bit_at-zero}
 use Rattle.volume_layout.specs.declared.layout.Layout.{Layout}
 use Rattle.volume_layout.specs.Layout.{HasRegionsApart, data_start, home_a, is_data, map_bits, map_sectors, map_start, most_of}
+use Rattle.run_table.specs.RunTable.{run_of, sectors_of}
 use Rattle.run_table.specs.Space.{contains, where_free}
-use Rattle.sector_set.specs.Area.{Area, area}
+use Rattle.sector_set.specs.Area.{Area, IsOwn, area}
 use Rattle.sector_set.specs.Bits.{in_range}
-use Rattle.sector_set.proofs.FreeLaws.{where_same}
+use Rattle.sector_set.proofs.FreeLaws.{contains_where, contains_where_outside, where_same}
 use Rattle.sector_disk.specs.declared.sector.Sector.{Sector}
 use Rattle.sector_disk.specs.declared.sector.Sector.TheVariants.{Whole, Damaged}
 use Rattle.sector_disk.specs.declared.machine.Machine.{Ghosts}
@@ -33,7 +34,7 @@ use Rattle.saved_map.specs.declared.believing.FirstPart.{FirstPart}
 use Rattle.saved_map.specs.declared.believing.SavedMap.{SavedMap}
 use Rattle.saved_map.specs.Taking.{AreAdded, AreKept, AreMarked, AreNewFrom, IsPart, has_place, is_set_at, is_set_in_first, marks}
 use Rattle.saved_map.specs.Reading.{BeginsMap, Believes, IsClosedIn, IsFirstPart, IsNoPart, IsOfMap, IsWorth, LacksPart, SaysClosed, TakesMap, TakesPart, TakesRest, counts_in, marked_area, numbered}
-use Rattle.saved_map.proofs.RunLaws.{below, beyond, inside, or_none}
+use Rattle.saved_map.proofs.RunLaws.{area_own, below, beyond, in_one, inside, or_none}
 use Rattle.saved_map.proofs.TakingLaws.{home_is, homes_end}
 
 -- ---- wear
@@ -272,3 +273,60 @@ none_first l epoch i some none believed =
     let here : map_start l ≡ map_start l + 0 = omega arith in
     none (get_or believed.sectors 0 []) (head_of epoch 0 believed.counts) (ap (bytes_at i) here ∙ each_at (λ k. bytes_at i (map_start l + k)) 0 (map_sectors l) believed.sectors [] believed.whole 0 some)
     (record { read = believed.is.heads 0 some; worth = record { epoch_is = refl; index_is = refl; worth = believed.worth } })
+
+-- ---- what is believed
+
+pub same_first : (may : ℕ → Bool) (i j : Image) (s : ℕ) (bytes other : List ℕ) → IsWorn may i j → sector_at i s ≡ Whole bytes → bytes_at j s ≡ Some other → other ≡ bytes
+same_first may i j s bytes other worn whole at =
+    let both : Whole other ≡ Whole bytes = sym (bytes_were may i j s other worn at) ∙ whole in
+    cc
+
+pub each_read : {A E : Type 0} {P Q : A → Type 0} (r : Result (Option A) E) → IfOk r (λ o. IfSome o P) → ((x : A) → P x → Q x) → IfOk r (λ o. IfSome o Q)
+each_read (Ok (Some x)) is more = more x is
+each_read (Ok None) is more = is
+each_read (Err fault) is more = is
+
+pub believed_map : {D : Type 0} (M : Ghosts D) (l : Layout) (epoch : ℕ) (old mid new : D) (first : FirstPart) (saved : SavedMap) → OnlyReads M None old mid → (M.honest new → M.honest mid)
+    → BeginsMap M l epoch old mid first → TakesMap M l first.head mid new saved → Believes M l epoch old new saved
+believed_map M l epoch old mid new first saved reads back begins takes = record {
+  counts = counts_in first.head;
+  sectors = takes.sectors;
+  of = subst (λ (e : ℕ). IsMapOf l e (counts_in first.head) takes.sectors) begins.is.worth.epoch_is takes.of;
+  worth = begins.is.worth.worth;
+  is = takes.is;
+  whole = λ h. map_was l _ (M.now old).image (M.now mid).image takes.sectors (reads.worn (back h)).image (takes.whole h);
+  closed = λ h. begins.closed (back h);
+}
+
+-- ---- nothing is marked
+
+no_flags : (n i : ℕ) → get_or (replicate n false) i false ≡ false
+no_flags zero i = refl
+no_flags (suc n) zero = refl
+no_flags (suc n) (suc i) = no_flags n i
+
+pub nothing_marked : (l : Layout) (map : Area) (pages : List Bool) (from to : ℕ) → from ≡ data_start l → to ≡ most_of l → from ≤ to → map ≡ area from to (λ s. not (contains (sectors_of (run_of from (to - from) ∷ [])) s)) → pages ≡ replicate l.pages false
+    → AreMarked l (λ _. false) map pages
+nothing_marked l map pages from to start end order is flags = record {
+  kept = record {
+    of = record { from = ap (λ (a : Area). a.from) is ∙ start; to = ap (λ (a : Area). a.to) is ∙ end; pages_are = ap (λ (xs : List Bool). length xs) flags ∙ length-replicate l.pages false };
+    own = subst IsOwn (sym is) (area_own from to test);
+  };
+  each = λ s. by s (is_first_home l s);
+}
+  where
+    test : ℕ → Bool
+    test s = not (contains (sectors_of (run_of from (to - from) ∷ [])) s)
+
+    none : (s : ℕ) → contains (where_free test from to) s ≡ false
+    none s = elim (cases_lt s from) [
+      | inl less ↦ contains_where_outside test from to s (λ low high. absurd (omega (arith, less, low)))
+      | inr more ↦ elim (cases_lt s to) [
+        | inl less ↦ contains_where test from to s more less ∙ ap not (in_one from to s order ∙ inside from to s more less)
+        | inr far ↦ contains_where_outside test from to s (λ low high. absurd (omega (arith, far, high)))
+      ]
+    ]
+
+    by : (s : ℕ) (b : Bool) → cond b (get_or pages (s - home_a l 0) false) (contains map.sectors s) ≡ false
+    by s true = ap (λ (xs : List Bool). get_or xs (s - home_a l 0) false) flags ∙ no_flags l.pages (s - home_a l 0)
+    by s false = ap (λ (a : Area). contains a.sectors s) is ∙ none s

@@ -1,6 +1,6 @@
 //! A saved map as it is read.
-ghost use Rattle.std.specs.Prelude.{◌≡◌, ◌↔◌, ◌<◌, ◌≤◌, ◌*◌, ◌∷◌, [], ℕ, List, Ok, None, Some, IfOk, IfSome, IsTrue, true, false};
-ghost use Rattle.volume_layout.specs.Layout.{map_bits, map_sectors, map_start, IsPlanned};
+ghost use Rattle.std.specs.Prelude.{◌≡◌, ◌↔◌, ◌<◌, ◌≤◌, ◌∷◌, [], ℕ, List, Ok, None, Some, IfOk, IfSome, IsTrue, true, false};
+ghost use Rattle.volume_layout.specs.Layout.{map_sectors, map_start, IsPlanned};
 ghost use Rattle.fsd_formats.specs.declared.map_head.MapHead.{MapHead};
 ghost use Rattle.fsd_formats.specs.SavedMap.{is_set_in};
 ghost use Rattle.fsd_files.specs.Disk.{bytes_at};
@@ -8,11 +8,11 @@ ghost use Rattle.fsd_sound.specs.Saved.{IsBelieved};
 ghost use Rattle.sector_disk.specs.declared.sector.Sector.TheVariants.{Whole};
 ghost use Rattle.sector_disk.specs.Calls.{OnlyReads, device_in, failed_at};
 ghost use Rattle.sector_disk.specs.Image.{sector_at};
-ghost use Rattle.saved_map.specs.Taking.{AreKept, AreMarked, AreNewFrom, IsPart};
-ghost use Rattle.saved_map.specs.Reading.{BeginsMap, Believes, IsClosedIn, IsFirstPart, IsNoPart, IsWorth, LacksPart, TakesMap, TakesPart, TakesRest, device_of_map};
+ghost use Rattle.saved_map.specs.Taking.{AreMarked, IsPart};
+ghost use Rattle.saved_map.specs.Reading.{BeginsMap, Believes, IsClosedIn, IsFirstPart, IsWorth, LacksPart, TakesMap, TakesRest, device_of_map};
 
 use crate::closed::is_closed;
-use crate::heads::{read_map_head, take_part};
+use crate::heads::{read_map_head, read_part, take_part};
 use alloc_map::Map;
 use fsd_formats::MapHead;
 use run_table::Run;
@@ -90,29 +90,6 @@ fn find_first<M: Machine>(m: &mut M, l: &Layout, epoch: u32) -> Result<Option<Fi
         read_first(m, l, epoch)
     } else {
         Ok(None)
-    }
-}
-
-// Takes the marks of the map's sector with this head in, if it is one.
-fn read_part<M: Machine>(
-    m: &mut M,
-    l: &Layout,
-    map: &mut Map,
-    free_pages: &mut [bool],
-    head: &MapHead,
-) -> Result<bool, Failed>
-    requires planned { IsPlanned l.now }
-    requires sectors { l.now.sectors ≤ (M.report m.old).sectors }
-    requires kept { AreKept l.now map.old free_pages.old }
-    requires index { head.now.index < map_sectors l.now }
-    requires new { AreNewFrom l.now map.old free_pages.old (map_bits * head.now.index) }
-    ensures reads { OnlyReads M.Machine (device_in failed_at result) m.old m.new }
-    ensures took { result ≡ Ok true → TakesPart M.Machine l.now head.now m.new map.old free_pages.old map.new free_pages.new }
-    ensures not { result ≡ Ok false → M.honest m.new → IsNoPart l.now head.now (M.now m.new).image }
-{
-    match read_sector(m, l.map_start() + head.index)? {
-        Some(b) => Ok(take_part(l, map, free_pages, head, &b)),
-        None => Ok(false),
     }
 }
 

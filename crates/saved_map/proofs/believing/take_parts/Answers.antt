@@ -1,4 +1,5 @@
 use Rattle.std.proofs.Common.{◌≡◌, ◌≤◌, ◌<◌, ◌∙◌, ℕ, List, Bool, subst, sym, ap, arith}
+use Rattle.std.proofs.lemmas.Bool.{both_ways}
 use Rattle.saved_map.proofs.LayoutLaws.{some_sectors}
 use Rattle.saved_map.proofs.ReadingLaws.{first_lacks, marked_first}
 use Rattle.saved_map.proofs.believing.take_parts.Goals as goal
@@ -26,4 +27,4 @@ read_rest-requires g c =
 pub returns-else-take_part-clause-not : goal.returns-else-take_part-clause-not
 returns-else-take_part-clause-not g c same h =
     first_lacks g.M.Machine c.args.l.now c.args.first.now (g.M.Machine.now c.args.m.now).image (some_sectors c.args.l.now c.requires.planned) c.requires.is.worth.index_is (c.requires.whole h)
-    (λ part. ?)
+    (λ part. both_ways c.take_part.result c.if-take_part.false (c.take_part.ensures.part.1 part))
