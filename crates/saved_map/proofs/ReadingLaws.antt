@@ -1,10 +1,8 @@
 -- A saved map that is read sector by sector.
 use Rattle.std.proofs.Common.{◌≡◌, ◌⊎◌, ℕ, zero, suc, ◌+◌, ◌-◌, ◌*◌, ◌/◌, ◌%◌, ◌<◌, ◌≤◌, Bool, true, false, cond, not, replicate, Result, Ok, Err, ◌&&◌, ◌||◌, List, [], ◌∷◌, ◌++◌, length, map, get_or, Option, Some, None, refl, sym, ap, subst, ◌∙◌, inl, inr, arith}
 use Rattle.std.specs.Prelude.{◌==◌, IfOk, IfSome, nat_lt, option_and_then}
-use Rattle.std.specs.Int.{bit_at}
 use Rattle.std.specs.List.{range_with_len}
-use Rattle.std.proofs.Math.Bool.{and-true}
-use Rattle.std.proofs.lemmas.Bool.{both_ways, cases_Bool, cases_lt, cond-false, cond-true, le-ltb, lt-ltb, or_from, false_from_ne_true}
+use Rattle.std.proofs.lemmas.Bool.{cases_lt, cond-false, cond-true, le-ltb, lt-ltb, or_from}
 use Rattle.std.proofs.lemmas.List.{get_or_append_left, get_or_past, get_or_push, length-append, length-replicate}
 use Rattle.std.proofs.lemmas.Nat.Bits.{bit_at-zero}
 use Rattle.volume_layout.specs.declared.layout.Layout.{Layout}
@@ -12,28 +10,26 @@ use Rattle.volume_layout.specs.Layout.{HasRegionsApart, data_start, home_a, is_d
 use Rattle.run_table.specs.RunTable.{run_of, sectors_of}
 use Rattle.run_table.specs.Space.{contains, where_free}
 use Rattle.sector_set.specs.Area.{Area, IsOwn, area}
-use Rattle.sector_set.specs.Bits.{in_range}
 use Rattle.sector_set.proofs.FreeLaws.{contains_where, contains_where_outside, where_same}
 use Rattle.sector_disk.specs.declared.sector.Sector.{Sector}
 use Rattle.sector_disk.specs.declared.sector.Sector.TheVariants.{Whole, Damaged}
 use Rattle.sector_disk.specs.declared.machine.Machine.{Ghosts}
 use Rattle.sector_disk.specs.Image.{IsWorn, bytes_of, sector_at}
-use Rattle.sector_disk.specs.Machine.{Moment}
 use Rattle.sector_disk.specs.Calls.{OnlyReads, as_sector}
 use Rattle.sector_disk.proofs.Wear.{whole_of, worn_whole}
 use Rattle.fsd_formats.specs.declared.anchor.Anchor.{Anchor}
 use Rattle.fsd_formats.specs.declared.map_head.MapHead.{MapHead}
 use Rattle.fsd_formats.specs.Anchors.{read_closed}
 use Rattle.fsd_formats.specs.MapSector.{has_map_bit, read_map_head}
-use Rattle.fsd_formats.specs.SavedMap.{IsMapOf, MapCounts, head_of, is_first_home, is_set_in}
+use Rattle.fsd_formats.specs.SavedMap.{IsMapOf, head_of, is_first_home, is_set_in}
 use Rattle.fsd_files.specs.Disk.{Image, bytes_at}
-use Rattle.fsd_sound.specs.Saved.{IsBelieved, IsClosedAt, closed_at, map_of}
+use Rattle.fsd_sound.specs.Saved.{IsBelieved, IsClosedAt, map_of}
 use Rattle.fsd_sound.proofs.EachLaws.{all_in_range, each_at, each_of_all, items_by_place}
 use Rattle.fsd_sound.proofs.SavedLaws.{map_before}
 use Rattle.saved_map.specs.declared.believing.FirstPart.{FirstPart}
 use Rattle.saved_map.specs.declared.believing.SavedMap.{SavedMap}
-use Rattle.saved_map.specs.Taking.{AreAdded, AreKept, AreMarked, AreNewFrom, IsPart, has_place, is_set_at, is_set_in_first, marks}
-use Rattle.saved_map.specs.Reading.{BeginsMap, Believes, IsClosedIn, IsFirstPart, IsNoPart, IsOfMap, IsWorth, LacksPart, SaysClosed, TakesMap, TakesPart, TakesRest, counts_in, marked_area, numbered}
+use Rattle.saved_map.specs.Taking.{AreAdded, AreMarked, AreNewFrom, IsPart, has_place, is_set_at}
+use Rattle.saved_map.specs.Reading.{BeginsMap, Believes, IsFirstPart, IsOfMap, LacksPart, SaysClosed, TakesMap, TakesPart, TakesRest, counts_in, numbered}
 use Rattle.saved_map.proofs.RunLaws.{area_own, below, beyond, in_one, inside, or_none}
 use Rattle.saved_map.proofs.TakingLaws.{home_is, homes_end}
 
@@ -174,10 +170,14 @@ module _ {D : Type 0} (M : Ghosts D) (l : Layout) (first : FirstPart) where
 
   -- the first sector is none
   pub first_lacks : (i : Image) → 0 < map_sectors l → first.head.index ≡ 0 → sector_at i (map_start l) ≡ Whole first.bytes → (IsPart l first.head first.bytes → ⊥) → LacksPart l first.head i
-  first_lacks i some zero_is whole none = (0, some, λ bytes at part.
-      (let here : map_start l + 0 ≡ map_start l = omega arith in
-      let same : bytes ≡ first.bytes = (let both : Some bytes ≡ Some first.bytes = sym at ∙ ap (bytes_at i) here ∙ ap bytes_of whole in cc) in
-      none (subst (λ (h : MapHead). IsPart l h first.bytes) (sym (first_numbered zero_is)) (subst (λ (b : List ℕ). IsPart l (numbered first.head 0) b) same part))))
+  first_lacks i some zero_is whole none = (
+    0,
+    some,
+    λ bytes at part.
+        (let here : map_start l + 0 ≡ map_start l = omega arith in
+        let same : bytes ≡ first.bytes = (let both : Some bytes ≡ Some first.bytes = sym at ∙ ap (bytes_at i) here ∙ ap bytes_of whole in cc) in
+        none (subst (λ (h : MapHead). IsPart l h first.bytes) (sym (first_numbered zero_is)) (subst (λ (b : List ℕ). IsPart l (numbered first.head 0) b) same part))),
+  )
 
 -- ---- all of them
 

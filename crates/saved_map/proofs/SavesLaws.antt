@@ -1,14 +1,12 @@
 -- Sectors of a map that are written one after another.
-use Rattle.std.proofs.Common.{◌≡◌, ℕ, zero, suc, ◌+◌, ◌/◌, ◌<◌, ◌≤◌, List, length, refl, sym, ap, subst, ◌∙◌, inl, inr, arith, add-one}
-use Rattle.std.specs.Prelude.{None}
+use Rattle.std.proofs.Common.{◌≡◌, ℕ, zero, suc, ◌+◌, ◌/◌, ◌<◌, ◌≤◌, List, length, sym, ap, subst, ◌∙◌, arith, add-one}
 use Rattle.volume_layout.specs.declared.layout.Layout.{Layout}
 use Rattle.volume_layout.specs.Layout.{map_sectors, map_start}
 use Rattle.sector_disk.specs.declared.sector.Sector.{Sector}
-use Rattle.sector_disk.specs.declared.sector.Sector.TheVariants.{Whole}
-use Rattle.sector_disk.specs.Image.{lay, stand, with_sector}
+use Rattle.sector_disk.specs.Image.{stand, with_sector}
 use Rattle.sector_disk.specs.Machine.{Holds, Ledger, Moment, Tears, wrote}
 use Rattle.sector_disk.proofs.Calm.{stand_one}
-use Rattle.sector_disk.proofs.Holding.{HoldsSome, holds_now, holds_on, holds_tears}
+use Rattle.sector_disk.proofs.Holding.{holds_now, holds_on, holds_tears}
 use Rattle.saved_map.specs.Saving.{SavesIn, with_map}
 
 module _ (l : Layout) (sector : ℕ → List ℕ) (old mid left : Moment) (k place : ℕ) (bytes : List ℕ) (at : place ≡ map_start l + k) (is : bytes ≡ sector k) (size : length bytes ≡ 512) (holds : Holds old (with_map l sector old.image k) mid) where

@@ -1,19 +1,18 @@
 -- Runs of sectors that are marked, and runs of set bits that are taken in.
-use Rattle.std.proofs.Common.{◌≡◌, ℕ, ◌+◌, ◌-◌, ◌*◌, ◌<◌, ◌≤◌, Bool, true, false, cond, not, ◌&&◌, ◌||◌, List, length, get_or, refl, sym, ap, subst, ◌∙◌, inl, inr, arith}
+use Rattle.std.proofs.Common.{◌≡◌, ℕ, ◌+◌, ◌-◌, ◌<◌, ◌≤◌, Bool, true, false, cond, not, ◌&&◌, ◌||◌, List, length, get_or, refl, sym, ap, subst, ◌∙◌, inl, inr, arith}
 use Rattle.std.specs.Prelude.{nat_le, nat_lt}
 use Rattle.std.proofs.Math.Bool.{or_assoc}
-use Rattle.std.proofs.lemmas.Bool.{and_from, and_parts, both_ways, cases_Bool, cases_lt, le-leb, leb-true, lt-ltb, ltb-true, or_cases, or_left, or_right, true_from_ne_false, cond-true, cond-false}
+use Rattle.std.proofs.lemmas.Bool.{and_from, and_parts, both_ways, cases_Bool, cases_lt, le-leb, leb-true, lt-ltb, ltb-true, or_cases, or_left, or_right, true_from_ne_false, cond-false}
 use Rattle.volume_layout.specs.declared.layout.Layout.{Layout}
-use Rattle.volume_layout.specs.Layout.{HasRegionsApart, data_start, home_a, is_data, map_bits, most_of}
+use Rattle.volume_layout.specs.Layout.{HasRegionsApart, data_start, home_a, is_data, map_bits}
 use Rattle.run_table.specs.Space.{contains}
-use Rattle.sector_set.specs.Area.{Area, IsOwn}
+use Rattle.sector_set.specs.Area.{Area}
 use Rattle.sector_set.specs.Bits.{in_range}
 use Rattle.sector_set.specs.SectorSet.{IsFirst}
 use Rattle.fsd_formats.specs.MapSector.{has_map_bit}
 use Rattle.fsd_formats.specs.SavedMap.{is_first_home}
-use Rattle.saved_map.specs.Marks.{AreOf}
-use Rattle.saved_map.specs.Taking.{AreAdded, AreKept, AreMarked, AreNewFrom, HavePlaces, IsClear, has_place, is_set_in_first, marks}
-use Rattle.saved_map.proofs.RunLaws.{IsReleased, below, beyond, inside, is_inside, or_none}
+use Rattle.saved_map.specs.Taking.{AreAdded, AreKept, AreNewFrom, HavePlaces, IsClear, has_place, is_set_in_first, marks}
+use Rattle.saved_map.proofs.RunLaws.{IsReleased, below, beyond, inside, or_none}
 
 -- ---- places
 

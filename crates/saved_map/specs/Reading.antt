@@ -11,7 +11,6 @@ use Rattle.fsd_files.specs.Disk.{Image, bytes_at}
 use Rattle.sector_disk.specs.declared.machine.Machine.{Ghosts}
 use Rattle.sector_disk.specs.declared.sector.Sector.TheVariants.{Whole}
 use Rattle.sector_disk.specs.Image.{sector_at}
-use Rattle.sector_disk.specs.Machine.{Moment}
 use Rattle.sector_set.specs.Area.{Area, area}
 use Rattle.fsd_sound.specs.Saved.{IsClosedAt, map_of}
 use Rattle.saved_map.specs.declared.believing.FirstPart.{FirstPart}

@@ -1,4 +1,4 @@
-use Rattle.std.proofs.Common.{◌≡◌, ◌≤◌, ◌<◌, ◌∙◌, ℕ, Ok, subst, ap, arith}
+use Rattle.std.proofs.Common.{◌≡◌, ◌≤◌, ◌∙◌, ℕ, Ok, subst, ap, arith}
 use Rattle.sector_disk.specs.Calls.{failed_at}
 use Rattle.sector_disk.proofs.CallLaws.{reads_none, reads_then, reads_told, told_up}
 use Rattle.saved_map.specs.Reading.{TakesRest}

@@ -1,4 +1,4 @@
-use Rattle.std.proofs.Common.{None, ◌≤◌}
+use Rattle.std.proofs.Common.{None}
 use Rattle.sector_disk.specs.Calls.{OnlyReads}
 use Rattle.saved_map.specs.Reading.{TakesRest}
 use Rattle.saved_map.proofs.believing.read_rest.Given as goal

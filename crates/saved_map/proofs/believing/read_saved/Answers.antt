@@ -1,4 +1,4 @@
-use Rattle.std.proofs.Common.{◌≡◌, Option, subst}
+use Rattle.std.proofs.Common.{Option, subst}
 use Rattle.std.specs.Prelude.{IfSome}
 use Rattle.sector_disk.proofs.CallLaws.{reads_then}
 use Rattle.saved_map.specs.declared.believing.FirstPart.{FirstPart}

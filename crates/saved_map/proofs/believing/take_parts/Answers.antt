@@ -1,4 +1,4 @@
-use Rattle.std.proofs.Common.{◌≡◌, ◌≤◌, ◌<◌, ◌∙◌, ℕ, List, Bool, subst, sym, ap, arith}
+use Rattle.std.proofs.Common.{arith}
 use Rattle.std.proofs.lemmas.Bool.{both_ways}
 use Rattle.saved_map.proofs.LayoutLaws.{some_sectors}
 use Rattle.saved_map.proofs.ReadingLaws.{first_lacks, marked_first}

@@ -1,4 +1,4 @@
-use Rattle.std.proofs.Common.{true, length-set, ◌≡◌, ◌+◌, ◌<◌, ◌∙◌, ◌||◌, false, ℕ, Bool, ap, get_or, refl, arith}
+use Rattle.std.proofs.Common.{true, length-set, ◌≡◌, ◌∙◌, ◌||◌, false, ℕ, ap, get_or, refl, arith}
 use Rattle.sector_set.specs.Bits.{in_range}
 use Rattle.saved_map.proofs.RunLaws.{flag_more, no_flag}
 use Rattle.saved_map.proofs.taking.free_run.Goals as goal

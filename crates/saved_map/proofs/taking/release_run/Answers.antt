@@ -12,5 +12,5 @@ release-requires c =
 pub returns : goal.returns
 returns c =
     let is = released c.args.map.now c.args.start c.args.stop c.requires.own c.requires.some c.requires.from c.requires.to c.release.new.self
-        (c.release.ensures ∙ ap (λ (runs : List Run). together c.args.map.now runs) c.one_run.ensures) in
+    (c.release.ensures ∙ ap (λ (runs : List Run). together c.args.map.now runs) c.one_run.ensures) in
     record { from = is.from; to = is.to; own = is.own; each = is.each }

@@ -1,4 +1,4 @@
-use Rattle.std.proofs.Common.{◌≡◌, ◌+◌, ◌≤◌, ◌<◌, ℕ, refl, subst, arith}
+use Rattle.std.proofs.Common.{◌≡◌, ℕ, refl, subst, arith}
 use Rattle.std.proofs.lemmas.Bool.{both_ways}
 use Rattle.volume_layout.specs.Layout.{map_bits}
 use Rattle.saved_map.specs.Taking.{AreAdded, is_set_in_first}
@@ -28,9 +28,11 @@ take_run-requires-clause-new c =
     new_behind c.args.b.now c.args.at c.args.l.now c.args.map.now c.loop-start.map c.args.free_pages.now c.loop-start.free_pages c.loop-start.start c.requires.new c.loop-start.invariant.added
 
 pub returns-then-not-take_run-clause-clear : goal.returns-then-not-take_run-clause-clear
-returns-then-not-take_run-clause-clear c =
-    (λ so. absurd (cc), λ clear. absurd (both_ways c.take_run.result c.if-not-take_run.true
-    (c.take_run.ensures.placed.1 (clear_places c.args.b.now c.args.at c.args.l.now c.loop-start.start c.first_bit-stop.result c.first_bit-stop.ensures clear))))
+returns-then-not-take_run-clause-clear c = (
+  λ so. absurd (cc),
+  λ clear. absurd (both_ways c.take_run.result c.if-not-take_run.true
+      (c.take_run.ensures.placed.1 (clear_places c.args.b.now c.args.at c.args.l.now c.loop-start.start c.first_bit-stop.result c.first_bit-stop.ensures clear))),
+)
 
 pub loop-start-preserved : goal.loop-start-preserved
 loop-start-preserved c =

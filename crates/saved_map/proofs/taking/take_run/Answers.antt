@@ -1,4 +1,4 @@
-use Rattle.std.proofs.Common.{◌≡◌, ◌≤◌, ◌<◌, ◌∙◌, ◌+◌, ◌-◌, ℕ, Bool, true, false, ◌&&◌, ◌||◌, get_or, ap, refl, sym, arith}
+use Rattle.std.proofs.Common.{◌≡◌, ◌≤◌, ◌∙◌, ◌+◌, ◌-◌, ℕ, Bool, true, false, ◌&&◌, ◌||◌, get_or, ap, refl, sym, arith}
 use Rattle.std.specs.Prelude.{nat_le}
 use Rattle.std.proofs.lemmas.Bool.{and_from, and_parts, both_ways, le-leb, leb-true}
 use Rattle.volume_layout.specs.Layout.{home_a}
@@ -6,7 +6,6 @@ use Rattle.sector_set.specs.Bits.{in_range}
 use Rattle.volume_layout.proofs.RegionLaws.{regions_apart}
 use Rattle.saved_map.proofs.LayoutLaws.{data_below}
 use Rattle.saved_map.proofs.TakingLaws.{data_added, data_places, home_places, homes_added, new_in_set, no_places}
-use Rattle.saved_map.proofs.taking.take_run.Given as given
 use Rattle.saved_map.proofs.taking.take_run.Goals as goal
 
 lies : (from to start stop : ℕ) (b : Bool) → b ≡ (nat_le from start && nat_le stop to) → b ≡ true → (from ≤ start) × (stop ≤ to)
@@ -68,9 +67,11 @@ returns-clause-taken c so = absurd (cc)
 pub returns-clause-placed : goal.returns-clause-placed
 returns-clause-placed c =
     let l = c.args.l.now in
-    let apart = regions_apart l c.requires.planned in
-    (λ so. absurd (cc), λ places. absurd (no_places l c.args.start c.args.stop apart c.requires.some
-    (λ low high. not_both c.data_start.result c.sectors.result c.args.start c.args.stop c.is_within.result c.is_within.ensures c.if-is_within.false (omega (arith, low, c.data_start.ensures)) (omega (arith, high, c.sectors.ensures.value)))
-    (λ low high. not_both c.first_home-home.result (c.first_home-home.result + c.pages.result) c.args.start c.args.stop c.is_within-2.result c.is_within-2.ensures c.if-is_within-2.false (omega (arith, low, c.first_home-home.ensures))
-    (omega (arith, high, c.first_home-home.ensures, c.pages.ensures.value)))
-    places))
+    let apart = regions_apart l c.requires.planned in (
+      λ so. absurd (cc),
+      λ places. absurd (no_places l c.args.start c.args.stop apart c.requires.some
+          (λ low high. not_both c.data_start.result c.sectors.result c.args.start c.args.stop c.is_within.result c.is_within.ensures c.if-is_within.false (omega (arith, low, c.data_start.ensures)) (omega (arith, high, c.sectors.ensures.value)))
+          (λ low high. not_both c.first_home-home.result (c.first_home-home.result + c.pages.result) c.args.start c.args.stop c.is_within-2.result c.is_within-2.ensures c.if-is_within-2.false (omega (arith, low, c.first_home-home.ensures))
+          (omega (arith, high, c.first_home-home.ensures, c.pages.ensures.value)))
+          places),
+    )
