@@ -1,7 +1,6 @@
 -- What is marked, and the bits of a map's sector, byte by byte.
-use Rattle.std.proofs.Common.{◌≡◌, ℕ, suc, ◌+◌, ◌-◌, ◌*◌, ◌^◌, ◌<◌, ◌≤◌, Bool, true, false, ◌&&◌, List, [], ◌∷◌, ◌++◌, length, set, take, refl, sym, ap, ◌∙◌, arith}
+use Rattle.std.proofs.Common.{◌≡◌, ℕ, suc, ◌+◌, ◌-◌, ◌*◌, ◌^◌, ◌<◌, ◌≤◌, Bool, true, false, ◌&&◌, List, [], ◌∷◌, ◌++◌, length, set, take, sym, ap, ◌∙◌, arith}
 use Rattle.std.specs.Prelude.{if◌then◌else◌, slice_index_or}
-use Rattle.std.specs.List.{range_with_len}
 use Rattle.std.proofs.Math.Pow.{pow_mono}
 use Rattle.std.proofs.lemmas.Bool.{cond-false, cond-true}
 use Rattle.std.proofs.lemmas.List.{take_all, take_more_set}
@@ -10,7 +9,7 @@ use Rattle.volume_layout.specs.declared.layout.Layout.{Layout}
 use Rattle.volume_layout.specs.Layout.{home_a, is_data}
 use Rattle.run_table.specs.Space.{contains}
 use Rattle.fsd_formats.specs.declared.map_head.MapHead.{MapHead}
-use Rattle.fsd_formats.specs.MapSector.{bit_bytes, bits_of, bits_value, map_head, map_sector}
+use Rattle.fsd_formats.specs.MapSector.{bits_of, bits_value, map_head, map_sector}
 use Rattle.fsd_formats.specs.SavedMap.{is_first_home}
 use Rattle.fsd_formats.proofs.MapLaws.{value_small}
 use Rattle.saved_map.specs.Marks.{is_marked}

@@ -1,3 +1,4 @@
 pub mod Marks
 pub mod Reading
 pub mod Saving
+pub mod Taking

@@ -1,9 +1,10 @@
 -- The sectors of a map as they are saved, and what writing them leaves.
-use Rattle.std.specs.Prelude.{ℕ, ◌≤◌, ◌*◌, Bool, List}
+use Rattle.std.specs.Prelude.{ℕ, ◌≤◌, ◌*◌, Bool, not, List, count_by}
 use Rattle.volume_layout.specs.declared.layout.Layout.{Layout}
 use Rattle.volume_layout.specs.Layout.{map_bits, map_sectors, map_start}
 use Rattle.fsd_formats.specs.MapSector.{map_sector}
 use Rattle.fsd_formats.specs.SavedMap.{MapCounts, head_of}
+use Rattle.sector_set.specs.Area.{Area}
 use Rattle.sector_disk.specs.declared.sector.Sector.{Sector}
 use Rattle.sector_disk.specs.declared.sector.Sector.TheVariants.{Whole}
 use Rattle.sector_disk.specs.Image.{lay}
@@ -13,6 +14,14 @@ use Rattle.saved_map.specs.Marks.{is_marked}
 -- the map's sector of this number, of an epoch, with these counts
 abbrev pub saved_sector : Layout → (free : List ℕ) → (pages : List Bool) → (epoch : ℕ) → MapCounts → ℕ → List ℕ
 saved_sector l free pages epoch counts k = map_sector (head_of epoch k counts) (is_marked l free pages) (map_bits * k)
+
+-- what the heads say: how many pages are in use, those that aren't free, and how many versions there are
+abbrev pub counts_of : (pages : List Bool) → (versions : ℕ) → MapCounts
+counts_of pages versions = record { pages = count_by not pages; versions = versions }
+
+-- each sector of the map of these free sectors and pages
+abbrev pub saved : Layout → Area → (pages : List Bool) → (epoch versions : ℕ) → ℕ → List ℕ
+saved l map pages epoch versions = saved_sector l map.sectors pages epoch (counts_of pages versions)
 
 -- the image with so many first sectors of the map
 abbrev pub with_map : Layout → (ℕ → List ℕ) → List Sector → ℕ → List Sector
