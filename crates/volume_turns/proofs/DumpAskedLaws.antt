@@ -66,7 +66,7 @@ module _ {D : Type 0} (M : Ghosts D) (since : Serial) (most : Option ℕ) (befor
   runs_dumped input rest status asked is x = by (subst (λ (r : Result Span ℕ). DumpsAs r status) (sym is) x)
     where
       by : DumpsAs (span_of since most (volume_of k).entries) status → RunsOut M (Dump since most) input rest before k a b status
-      by y = record { cut = y.cut; may = y.may; cause = y.cause input rest; finishes = y.finishes; rooted = tt; so = y.so }
+      by y = record { cut = y.cut; may = y.may; cause = y.cause input rest; finishes = y.finishes; says = tt; rooted = tt; so = y.so }
 
 -- ---- where none of it is said
 

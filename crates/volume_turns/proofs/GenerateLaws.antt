@@ -102,6 +102,7 @@ module _ {D : Type 0} (M : Ghosts D) (seed count : ℕ) (input rest : List ℕ) 
             cut = None;
             may = tt;
             cause = tt;
+            says = tt;
             rooted = tt;
             so = tt;
             finishes = finishes_last M (Generate seed count) (M.report a) k front line (session_behind mets v commands).volume 0 a p b moments done short ends at_p at_b counted status says honest (errand_of (Generate seed count) input (volume_of k)) Always (WornIf false) mets tt turns_is (on (WornIf false) later goes)
@@ -113,6 +114,7 @@ module _ {D : Type 0} (M : Ghosts D) (seed count : ℕ) (input rest : List ℕ) 
         cut = None;
         may = tt;
         cause = tt;
+        says = tt;
         rooted = tt;
         so = tt;
         finishes = finishes_broken M (Generate seed count) (M.report a) k turns (is_through false mets commands) (line_turn (generated_line (answered mets v commands)) ∷ []) a p b (leaves (line_turn (generated_line (answered mets v commands)) ∷ [])) why said short ends at_p at_b once told status says honest ended
@@ -124,6 +126,7 @@ module _ {D : Type 0} (M : Ghosts D) (seed count : ℕ) (input rest : List ℕ) 
         cut = None;
         may = tt;
         cause = tt;
+        says = tt;
         rooted = tt;
         so = tt;
         finishes = finishes_unsaid M (Generate seed count) (M.report a) k (turns ++ turns_behind (is_through false mets commands) (line_turn (generated_line (answered mets v commands)) ∷ [])) a b moments told (errand_of (Generate seed count) input (volume_of k)) Always (WornIf false) mets tt turns_all (on (WornIf false) later goes);
@@ -166,6 +169,7 @@ module _ {D : Type 0} (M : Ghosts D) (seed count : ℕ) (input rest : List ℕ) 
             cut = Some (ByFault (length mets) Ends.WornOut);
             may = tt;
             cause = tt;
+            says = tt;
             rooted = tt;
             so = tt;
             finishes = finishes_last M (Generate seed count) (M.report a) k front (Says.Ended Ends.WornOut) (session_behind mets v commands).volume 9 a p b (subst (λ (x : List Turn). StopsOnly M a p (InRun k (forced_of k) x (M.now a))) split (leaves (last_line ∷ []))) done short ends at_p at_b counted status says honest
@@ -177,6 +181,7 @@ module _ {D : Type 0} (M : Ghosts D) (seed count : ℕ) (input rest : List ℕ) 
         cut = Some (ByFault (length mets) Ends.WornOut);
         may = tt;
         cause = tt;
+        says = tt;
         rooted = tt;
         so = tt;
         finishes = finishes_broken M (Generate seed count) (M.report a) k turns true (last_line ∷ []) a p b (leaves (last_line ∷ [])) why said short ends at_p at_b once told status says honest ended (ended_as silent done_commands cut_short) Worn (λ v i. IsWornOut v i) mets worn_behind turns_cut went;
@@ -187,6 +192,7 @@ module _ {D : Type 0} (M : Ghosts D) (seed count : ℕ) (input rest : List ℕ) 
         cut = Some (ByFault (length mets) Ends.WornOut);
         may = tt;
         cause = tt;
+        says = tt;
         rooted = tt;
         so = tt;
         finishes = finishes_unsaid M (Generate seed count) (M.report a) k (turns ++ forced_turn ∷ last_line ∷ []) a b moments told (ended_as silent done_commands cut_short) Worn (λ v i. IsWornOut v i) mets worn_behind turns_cut went;

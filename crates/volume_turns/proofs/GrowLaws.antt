@@ -93,7 +93,7 @@ pub grow_refused : (P : Result Reply Fault → Type 0) (n : ℕ) (s t : State) (
     → (IsKept n s t why → P (Ok (Said.Refused why))) → ((place : ℕ) → why ≡ Why.Device place → (grow_fault s.layout n ≡ None) × (t ≡ record s { down = Some place }) → P (Err (Ends.Device place))) → P r
 grow_refused P n s t why r is (inl kept) refused device =
     subst P (sym is) (refused_as s.layout n (λ w. P (Ok (Said.Refused w)) → P (ended_by w)) why kept.0 (λ p. p) (λ most past p. p) (refused kept))
-grow_refused P n s t why r is (inr fails) refused device = subst P (sym (is ∙ ap ended_by fails.1)) (device fails.0 fails.1 fails.2)
+grow_refused P n s t why r is (inr fails) refused device = subst P (sym (is ∙ ap ended_by fails.1)) (device fails.0 fails.1 (fails.2, fails.3))
 
 -- by a test, before anything is done
 pub grow_idle : (n : ℕ) (s : State) (why : Refusal) → s.down ≡ None → grow_fault s.layout n ≡ Some why → IsTrue (is_idle (grow_steps s n))

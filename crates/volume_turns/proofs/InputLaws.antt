@@ -81,6 +81,7 @@ module _ {D : Type 0} (M : Ghosts D) (name : List ℕ) (keep : Option ℕ) (inpu
     cut = None;
     may = tt;
     cause = tt;
+    says = tt;
     rooted = tt;
     so = tt;
     finishes = subst (λ (x : Errand). Finishes M (Put name keep) x Always (IsCutAt None) before k a b status) (sym (same_errand r.cut r.may)) (record {
@@ -151,6 +152,7 @@ module _ {S D : Type 0} (state : S → State) (has : S → Mounted → List Plac
     cut = None;
     may = tt;
     cause = tt;
+    says = tt;
     rooted = tt;
     so = tt;
     finishes = subst (λ (x : Errand). Finishes M (Put name keep) x Always (IsCutAt None) (M.report a) k a b status) (sym (asks_none name keep input (volume_of k) many))
@@ -186,6 +188,7 @@ module _ {S D : Type 0} (state : S → State) (has : S → Mounted → List Plac
         cut = None;
         may = tt;
         cause = tt;
+        says = tt;
         rooted = tt;
         so = tt;
         finishes = subst (λ (x : Errand). Finishes M (Put name keep) x Always (IsCutAt None) (M.report a) k a b status) (sym (asks_none name keep input (volume_of k) many)) (record {

@@ -76,4 +76,4 @@ module _ {D : Type 0} {M : Ghosts D} {R : Moment → Moment → Type 0} {fault :
 
 -- nothing was called
 pub wrote_none : {S D : Type 0} (state : S → State) (has : S → Mounted → List Placed → Type 0) (M : Ghosts D) (v : S) (a m : D) → m ≡ a → ((c : Moment) → M.honest a → M.left_since a (M.moment a) c → c ≡ M.now a) → Wrote M (Stays state has v) a m
-wrote_none state has M v a m same only_now = subst (λ (x : D). Wrote M (Stays state has v) a x) (sym same) (wrote (writes_none a only_now (Stays state has v) (λ h k stands. mounted_stays k (M.now a) (M.now a) stands.disk refl refl)))
+wrote_none {D = D} state has M v a m same only_now = subst (λ (x : D). Wrote M (Stays state has v) a x) (sym same) (wrote (writes_none a only_now (Stays state has v) (λ h k stands. mounted_stays k (M.now a) (M.now a) stands.disk refl refl)))

@@ -325,8 +325,7 @@ module _ {S D : Type 0} (state : S → State) (has : S → Mounted → List Plac
 
     goes_met : (t : ℕ) → t ≤ M.moment a → Goes (in_runs k.windows) (M.left_since m t) Anything (errand_alone command) (M.now a).said (M.now a).image (session_in idle) (met ∷ []) (plain ∷ [])
     goes_met t le =
-        let late = (disk.any_moment honest).later in
-        (
+        let late = (disk.any_moment honest).later in (
           (M.now m).image,
           record {
             kept = stood.disk.described.kept;

@@ -57,6 +57,7 @@ module _ {S D : Type 0} (state : S → State) (has : S → Mounted → List Plac
     cut = None;
     may = tt;
     cause = tt;
+    says = tt;
     rooted = tt;
     so = tt;
     finishes = finishes_before state has M v k a m wears short stands on at_a at_m (read.exit back) (read.since back) (read.any_moment back) b (Put name keep) (errand_of (Put name keep) input (volume_of k)) before status unworn Always (IsCutAt None) (λ x. tt) f;
@@ -72,6 +73,7 @@ module _ {S D : Type 0} (state : S → State) (has : S → Mounted → List Plac
     cut = None;
     may = tt;
     cause = tt;
+    says = tt;
     rooted = tt;
     so = tt;
     finishes = finishes_ended state has M v k a m wears short stands on at_a at_m (read.exit back) (read.since back) (read.any_moment back) b (Put name keep) (errand_of (Put name keep) input (volume_of k)) (some_put name keep input (volume_of k)) (M.report a) why may out (let same = read.spares.output in omega (arith, same)) status says honest at_b ended Always (IsCutAt None) tt tt;

@@ -84,7 +84,7 @@ module _ {S D : Type 0} (state : S → State) (has : S → Mounted → List Plac
     (short : (m : D) → M.honest m → AreShort (M.now m).windows) (timed : (m : D) → M.honest m → IsTimed M m) (command : Command) (unchanged : (x : Reply) → changes_of command x ≡ []) (unworn : may_wear_out command ≡ false) (v w : S) (a m : D) (k : Known)
     (none : k.opened ≡ none_open) (stood : Stands state has v k (M.now a)) (on : OnDisk M k (forced_of k) a) (turn_to : Layout → Layout) (disk : Wrote M (StaysBy turn_to state has v) a m) (honest : M.honest m)
     (find : MayFind (M.now a).image (M.now m).image (volume_of k) command met_none) (reply : Reply) (is : answer met_none (volume_of k) command ≡ (reply, record (volume_of k) { layout = turn_to (volume_of k).layout })) where
-  met : Meeting
+  abbrev met : Meeting
   met = record { met = met_none; held = [] }
 
   may : MayMeet (M.now a).image (M.now m).image (session_over (volume_of k)) (Plain command) met

@@ -89,8 +89,8 @@ module _ {D : Type 0} (M : Ghosts D) (before : Report) (k : Known) (a b : D) whe
   module _ (input rest : List ℕ) (status : ℕ) where
     out_by : (o : Option ℕ) (f : Finishes M Restore (cut_off (cut_at o) (errand_of Restore input (volume_of k))) (λ s. IsCutBefore (cut_at o) s (errand_of Restore input (volume_of k)).commands) (IsCutAt (cut_at o)) before k a b status)
         → IsRestoredSo (cut_at o) (answered f.mets (session_over (volume_of k)) (cut_off (cut_at o) (errand_of Restore input (volume_of k))).commands) → RunsOut M Restore input rest before k a b status
-    out_by None f so = record { cut = None; may = tt; cause = tt; finishes = f; rooted = tt; so = so }
-    out_by (Some count) f so = record { cut = Some (ByRefusal count); may = tt; cause = tt; finishes = f; rooted = tt; so = so }
+    out_by None f so = record { cut = None; may = tt; cause = tt; finishes = f; says = tt; rooted = tt; so = so }
+    out_by (Some count) f so = record { cut = Some (ByRefusal count); may = tt; cause = tt; finishes = f; says = tt; rooted = tt; so = so }
 
     pub runs_restored : length input ≤ max_input → RunsAs (restore_of (dumped_in input) (volume_of k)) status → RunsOut M Restore input rest before k a b status
     runs_restored few runs = let x = subst (λ (e : Errand). RunsAs e status) (sym (asks_restore input (volume_of k) few)) runs in out_by x.refused x.finishes x.so

@@ -72,7 +72,7 @@ module _ {D : Type 0} (M : Ghosts D) (name : List ℕ) (keep : Option ℕ) (inpu
       λ e is. subst (λ (x : Errand). (g : Finishes M Restore x Always (IsCutAt None) before k a b status) × (first_refusal (answered g.mets (session_over (volume_of k)) x.commands) ≡ None)) is
       (as_restore f_none, ap first_refusal (answered_none (as_restore f_none).mets (session_over (volume_of k)))) in
       let all = runs (errand_of Restore input (volume_of k)) (sym (asks_nothing input (volume_of k) many)) in
-      record { cut = None; may = tt; cause = tt; finishes = all.0; rooted = tt; so = all.1 }
+      record { cut = None; may = tt; cause = tt; finishes = all.0; says = tt; rooted = tt; so = all.1 }
 
   pub long_restore : RunsOut M (Put name keep) input rest before k a b status → RunsOut M Restore input rest before k a b status
   long_restore r = long_by r.cut r.may r.finishes
@@ -100,6 +100,7 @@ module _ {S D : Type 0} (state : S → State) (has : S → Mounted → List Plac
     may = r.may;
     cause = r.cause;
     finishes = finishes_before state has M v k a m wears short stands on at_a at_m (read.exit back) (read.since back) (read.any_moment back) b Restore (errand_in Restore input r.cut (volume_of k)) (M.report m) status unworn (λ s. IsCutBefore r.cut s (errand_of Restore input (volume_of k)).commands) (IsCutAt r.cut) (last_so unworn r.cut r.may) r.finishes;
+    says = tt;
     rooted = tt;
     so = r.so;
   })
@@ -111,6 +112,7 @@ module _ {S D : Type 0} (state : S → State) (has : S → Mounted → List Plac
     may = tt;
     cause = tt;
     finishes = finishes_ended state has M v k a m wears short stands on at_a at_m (read.exit back) (read.since back) (read.any_moment back) b Restore (errand_of Restore input (volume_of k)) (some_turn input (volume_of k)) (M.report a) why may out (let same = read.spares.output in omega (arith, same)) status says honest at_b ended Always (IsCutAt None) tt tt;
+    says = tt;
     rooted = tt;
     so = refl;
   }

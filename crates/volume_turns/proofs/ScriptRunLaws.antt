@@ -50,6 +50,7 @@ module _ (e : Errand) (says : e.says ≡ reply_text) (forces : e.forces ≡ is_f
       cut = None;
       may = tt;
       cause = tt;
+      says = tt;
       rooted = tt;
       so = tt;
       finishes = subst (λ (y : Errand). Finishes M Script y Always (WornIf false) x k a b status) (as_spoken (script_in input).0 (λ done. script_ending (script_in input).1)) (finishes_in M _ Always (WornIf false) x p k a b status f);
@@ -63,6 +64,7 @@ module _ (e : Errand) (says : e.says ≡ reply_text) (forces : e.forces ≡ is_f
       cut = Some (ByFault w.count Ends.WornOut);
       may = tt;
       cause = tt;
+      says = tt;
       rooted = tt;
       so = tt;
       finishes = subst (λ (y : Errand). Finishes M Script y (λ s. WearsOut s (slice_get (script_in input).0 w.count)) (λ v i. IsWornOut v i) x k a b status) (as_spoken (take w.count (script_in input).0) (λ done. cut_ending Ends.WornOut)) (finishes_in M _ (λ s. WearsOut s (slice_get (script_in input).0 w.count)) (λ v i. IsWornOut v i) x p k a b status w.finishes);
@@ -74,6 +76,7 @@ module _ (e : Errand) (says : e.says ≡ reply_text) (forces : e.forces ≡ is_f
       cut = Some (ByFault (length done) Ends.Input);
       may = tt;
       cause = record { rose = rose; taken = taken; all = all; commands = whole };
+      says = tt;
       rooted = tt;
       so = tt;
       finishes = subst (λ (cs : List ScriptCommand). Finishes M Script (ended_as spoken cs (λ d. cut_ending Ends.Input)) Always (WornIf false) x k a b status) (sym front)

@@ -123,7 +123,7 @@ ends_upgraded answer is = absurd (cc is)
 pub upgrade_refused : (P : Result Reply Fault → Type 0) (s t : State) (why : Refusal) (r : Result Reply Fault) → r ≡ ended_by why → IsDone s t why ⊎ FailsRoots s t why
     → (IsDone s t why → P (Ok (Said.Refused (Why.LayoutIs 2)))) → ((place : ℕ) → why ≡ Why.Device place → (s.layout.kind ≡ Two) × (t ≡ record s { down = Some place }) → P (Err (Ends.Device place))) → P r
 upgrade_refused P s t why r is (inl done) layout device = subst P (sym (is ∙ ap ended_by done.0)) (layout done)
-upgrade_refused P s t why r is (inr fails) layout device = subst P (sym (is ∙ ap ended_by fails.1)) (device fails.0 fails.1 fails.2)
+upgrade_refused P s t why r is (inr fails) layout device = subst P (sym (is ∙ ap ended_by fails.1)) (device fails.0 fails.1 (fails.2, fails.3))
 
 -- ---- how it ends over a volume that stands
 
