@@ -1,14 +1,14 @@
 -- What is marked in a saved map.
-use Rattle.std.specs.Prelude.{◌≡◌, ℕ, ◌-◌, Bool, false, ◌&&◌, List, length, slice_index_or, if◌then◌else◌}
+use Rattle.std.specs.Prelude.{◌≡◌, ℕ, Bool, false, List, length, slice_index_or}
 use Rattle.volume_layout.specs.declared.layout.Layout.{Layout}
-use Rattle.volume_layout.specs.Layout.{data_start, home_a, is_data, most_of}
-use Rattle.fsd_formats.specs.SavedMap.{is_first_home}
+use Rattle.volume_layout.specs.Layout.{data_start, most_of}
+use Rattle.fsd_formats.specs.SavedMap.{marks}
 use Rattle.run_table.specs.Space.{contains}
 use Rattle.sector_set.specs.Area.{Area}
 
--- a free sector of the data area is marked, and the first home of a free page; no other
+-- the free sectors of the data area are marked, and the first homes of the free pages
 abbrev pub is_marked : Layout → (free : List ℕ) → (pages : List Bool) → ℕ → Bool
-is_marked l free pages s = if is_data l s then contains free s else is_first_home l s && slice_index_or pages (s - home_a l 0) false
+is_marked l free pages s = marks l (contains free) (λ page. slice_index_or pages page false) s
 
 -- The interval is of the data area, with room for the most sectors that the volume may grow to, and there is a flag for each
 -- page.

@@ -1,19 +1,18 @@
 -- The sectors of a map as they are saved, and what writing them leaves.
-use Rattle.std.specs.Prelude.{ℕ, ◌≤◌, ◌*◌, Bool, not, List, count_by}
+use Rattle.std.specs.Prelude.{ℕ, ◌≤◌, Bool, false, not, List, count_by, slice_index_or}
 use Rattle.volume_layout.specs.declared.layout.Layout.{Layout}
-use Rattle.volume_layout.specs.Layout.{map_bits, map_sectors, map_start}
-use Rattle.fsd_formats.specs.MapSector.{map_sector}
-use Rattle.fsd_formats.specs.SavedMap.{MapCounts, head_of}
+use Rattle.volume_layout.specs.Layout.{map_sectors, map_start}
+use Rattle.run_table.specs.Space.{contains}
+use Rattle.fsd_formats.specs.SavedMap.{MapCounts, saved_sector as sector_of_map}
 use Rattle.sector_set.specs.Area.{Area}
 use Rattle.sector_disk.specs.declared.sector.Sector.{Sector}
 use Rattle.sector_disk.specs.declared.sector.Sector.TheVariants.{Whole}
 use Rattle.sector_disk.specs.Image.{lay}
 use Rattle.sector_disk.specs.Machine.{Moment, Holds}
-use Rattle.saved_map.specs.Marks.{is_marked}
 
 -- the map's sector of this number, of an epoch, with these counts
 abbrev pub saved_sector : Layout → (free : List ℕ) → (pages : List Bool) → (epoch : ℕ) → MapCounts → ℕ → List ℕ
-saved_sector l free pages epoch counts k = map_sector (head_of epoch k counts) (is_marked l free pages) (map_bits * k)
+saved_sector l free pages epoch counts k = sector_of_map l (contains free) (λ page. slice_index_or pages page false) epoch counts k
 
 -- what the heads say: how many pages are in use, those that aren't free, and how many versions there are
 abbrev pub counts_of : (pages : List Bool) → (versions : ℕ) → MapCounts
