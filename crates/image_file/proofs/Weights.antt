@@ -1,7 +1,8 @@
 -- The weighted sum of a sector's bytes.
-use Rattle.std.proofs.Common.{◌≡◌, ℕ, suc, ◌+◌, ◌*◌, ◌<◌, ◌≤◌, List, [], ◌∷◌, length, get_or, drop, ap, ◌∙◌, arith}
-use Rattle.std.proofs.Math.Nat.{mul-le-mul}
+use Rattle.std.proofs.Common.{◌≡◌, ℕ, zero, suc, ◌+◌, ◌*◌, ◌<◌, ◌≤◌, List, [], ◌∷◌, length, get_or, take, drop, refl, ap, ◌∙◌, arith}
+use Rattle.std.proofs.Math.Nat.{add-mul, mul-add, mul-le-mul}
 use Rattle.std.proofs.Math.Seq.{drop-cons}
+use Rattle.std.proofs.lemmas.List.{drop-drop, length-drop}
 use Rattle.fsd_formats.specs.Slot.{weighted_sum}
 
 pub weighted_sum-le : (place : ℕ) (bytes : List ℕ) → ((i : ℕ) → get_or bytes i 0 < 256) → place + length bytes ≤ 513 → weighted_sum place bytes ≤ 130560 * length bytes
@@ -12,8 +13,46 @@ weighted_sum-le place (b ∷ bytes) small short =
     omega (arith, mul-le-mul near byte, weighted_sum-le (place + 1) bytes (λ i. small (suc i)) (omega arith))
 
 -- the sum of the rest, by its first byte
-pub weighted_sum-drop : (i : ℕ) (bytes : List ℕ) → i < length bytes → weighted_sum (i + 1) (drop i bytes) ≡ (i + 1) * get_or bytes i 0 + weighted_sum (i + 1 + 1) (drop (i + 1) bytes)
-weighted_sum-drop i bytes lt =
+pub weighted_sum-drop : (place i : ℕ) (bytes : List ℕ) → i < length bytes → weighted_sum place (drop i bytes) ≡ place * get_or bytes i 0 + weighted_sum (place + 1) (drop (i + 1) bytes)
+weighted_sum-drop place i bytes lt =
     let next : suc i ≡ i + 1 = omega arith in
-    ap (weighted_sum (i + 1)) (drop-cons bytes i 0 lt)
-    ∙ ap (λ j. (i + 1) * get_or bytes i 0 + weighted_sum (i + 1 + 1) (drop j bytes)) next
+    ap (weighted_sum place) (drop-cons bytes i 0 lt)
+    ∙ ap (λ (j : ℕ). place * get_or bytes i 0 + weighted_sum (place + 1) (drop j bytes)) next
+
+-- the same, with a place that is parted
+pub weighted_sum-step : (before i total : ℕ) (bytes : List ℕ) → i < length bytes
+    → before * (total + get_or bytes i 0) + (i + 1) * get_or bytes i 0 + weighted_sum (before + (i + 1) + 1) (drop (i + 1) bytes) ≡ before * total + weighted_sum (before + i + 1) (drop i bytes)
+weighted_sum-step before i total bytes lt =
+    let x = get_or bytes i 0 in
+    let one : before + i + 1 ≡ before + (i + 1) = omega arith in
+    let first = weighted_sum-drop (before + (i + 1)) i bytes lt in
+    let same = ap (λ (p : ℕ). weighted_sum p (drop i bytes)) one in
+    omega (arith, mul-add before total x, add-mul before (i + 1) x, first, same)
+
+weighted_sum-split : (n place : ℕ) (bytes : List ℕ) → n ≤ length bytes → weighted_sum place bytes ≡ weighted_sum place (take n bytes) + weighted_sum (place + n) (drop n bytes)
+weighted_sum-split zero place bytes le =
+    let same : place ≡ place + 0 = omega arith in
+    omega (arith, ap (λ (k : ℕ). weighted_sum k bytes) same)
+weighted_sum-split (suc n) place [] le = absurd (omega (arith, le))
+weighted_sum-split (suc n) place (b ∷ bytes) le =
+    let one : place + 1 + n ≡ place + suc n = omega arith in
+    let rest = weighted_sum-split n (place + 1) bytes (omega (arith, le)) in
+    let last = ap (λ (k : ℕ). weighted_sum k (drop n bytes)) one in
+    omega (arith, rest, last)
+
+-- the sum of the rest, by its next n bytes
+pub weighted_sum-part : (n from : ℕ) (bytes : List ℕ) → from + n ≤ length bytes
+    → weighted_sum (from + 1) (drop from bytes) ≡ weighted_sum (from + 1) (take n (drop from bytes)) + weighted_sum (from + n + 1) (drop (from + n) bytes)
+weighted_sum-part n from bytes le =
+    let xs = drop from bytes in
+    let split = weighted_sum-split n (from + 1) xs (omega (arith, length-drop from bytes, le)) in
+    let next : from + 1 + n ≡ from + n + 1 = omega arith in
+    let behind : weighted_sum (from + 1 + n) (drop n xs) ≡ weighted_sum (from + n + 1) (drop (from + n) bytes) =
+        ap (λ (k : ℕ). weighted_sum k (drop n xs)) next ∙ ap (weighted_sum (from + n + 1)) (drop-drop n from bytes) in
+    omega (arith, split, behind)
+
+pub weighted_sum-past : (place n : ℕ) (bytes : List ℕ) → length bytes ≤ n → weighted_sum place (drop n bytes) ≡ 0
+weighted_sum-past place zero [] le = refl
+weighted_sum-past place zero (b ∷ bytes) le = absurd (omega (arith, le))
+weighted_sum-past place (suc n) [] le = refl
+weighted_sum-past place (suc n) (b ∷ bytes) le = weighted_sum-past place n bytes (omega (arith, le))
