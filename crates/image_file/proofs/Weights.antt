@@ -1,7 +1,6 @@
 -- The weighted sum of a sector's bytes.
 use Rattle.std.proofs.Common.{◌≡◌, ℕ, zero, suc, ◌+◌, ◌*◌, ◌<◌, ◌≤◌, List, [], ◌∷◌, length, get_or, take, drop, refl, ap, ◌∙◌, arith}
-use Rattle.std.proofs.Math.Nat.{add-mul, mul-add, mul-le-mul}
-use Rattle.std.proofs.Math.Seq.{drop-cons}
+use Rattle.std.proofs.Math.Nat.{mul-le-mul}
 use Rattle.std.proofs.lemmas.List.{drop-drop, length-drop}
 use Rattle.fsd_formats.specs.Slot.{weighted_sum}
 
@@ -11,23 +10,6 @@ weighted_sum-le place (b ∷ bytes) small short =
     let near : place ≤ 512 = omega arith in
     let byte : b ≤ 255 = omega (arith, small 0) in
     omega (arith, mul-le-mul near byte, weighted_sum-le (place + 1) bytes (λ i. small (suc i)) (omega arith))
-
--- the sum of the rest, by its first byte
-pub weighted_sum-drop : (place i : ℕ) (bytes : List ℕ) → i < length bytes → weighted_sum place (drop i bytes) ≡ place * get_or bytes i 0 + weighted_sum (place + 1) (drop (i + 1) bytes)
-weighted_sum-drop place i bytes lt =
-    let next : suc i ≡ i + 1 = omega arith in
-    ap (weighted_sum place) (drop-cons bytes i 0 lt)
-    ∙ ap (λ (j : ℕ). place * get_or bytes i 0 + weighted_sum (place + 1) (drop j bytes)) next
-
--- the same, with a place that is parted
-pub weighted_sum-step : (before i total : ℕ) (bytes : List ℕ) → i < length bytes
-    → before * (total + get_or bytes i 0) + (i + 1) * get_or bytes i 0 + weighted_sum (before + (i + 1) + 1) (drop (i + 1) bytes) ≡ before * total + weighted_sum (before + i + 1) (drop i bytes)
-weighted_sum-step before i total bytes lt =
-    let x = get_or bytes i 0 in
-    let one : before + i + 1 ≡ before + (i + 1) = omega arith in
-    let first = weighted_sum-drop (before + (i + 1)) i bytes lt in
-    let same = ap (λ (p : ℕ). weighted_sum p (drop i bytes)) one in
-    omega (arith, mul-add before total x, add-mul before (i + 1) x, first, same)
 
 weighted_sum-split : (n place : ℕ) (bytes : List ℕ) → n ≤ length bytes → weighted_sum place bytes ≡ weighted_sum place (take n bytes) + weighted_sum (place + n) (drop n bytes)
 weighted_sum-split zero place bytes le =
@@ -48,7 +30,7 @@ weighted_sum-part n from bytes le =
     let split = weighted_sum-split n (from + 1) xs (omega (arith, length-drop from bytes, le)) in
     let next : from + 1 + n ≡ from + n + 1 = omega arith in
     let behind : weighted_sum (from + 1 + n) (drop n xs) ≡ weighted_sum (from + n + 1) (drop (from + n) bytes) =
-        ap (λ (k : ℕ). weighted_sum k (drop n xs)) next ∙ ap (weighted_sum (from + n + 1)) (drop-drop n from bytes) in
+    ap (λ (k : ℕ). weighted_sum k (drop n xs)) next ∙ ap (weighted_sum (from + n + 1)) (drop-drop n from bytes) in
     omega (arith, split, behind)
 
 pub weighted_sum-past : (place n : ℕ) (bytes : List ℕ) → length bytes ≤ n → weighted_sum place (drop n bytes) ≡ 0
