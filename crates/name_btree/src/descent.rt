@@ -15,7 +15,7 @@ ghost use Rattle.name_btree.specs.Path.{HasMet, Leads, StaysBelow};
 ghost use Rattle.name_page.specs.Looks.{OnlyReaches};
 ghost use Rattle.name_page.specs.Pages.{reaches};
 
-use crate::child::{child_node, read_child};
+use crate::child::read_child;
 use crate::fault::TreeFault;
 use crate::lookup::top;
 use crate::walking::child_at;
@@ -144,7 +144,9 @@ pub(crate) fn leaf_below<T: Pages>(
         next: None,
     };
     for above in above..6 {
-        match child_node(t, &way.child)? {
+        let mut node = Node::Free;
+        read_child(t, &way.child, &mut node)?;
+        match node {
             Node::Free => return Err(TreeFault::Broken(way.child.page)),
             Node::Leaf(entries) => {
                 return Ok(FoundLeaf {

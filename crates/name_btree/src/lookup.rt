@@ -1,7 +1,8 @@
 //! Looking up entries.
-ghost use Rattle.std.specs.Prelude.{◌≡◌, ◌+◌, ◌≤◌, ℕ, IfOk, IfErr, IfSome, Some, None, find, not, if◌then◌else◌};
+ghost use Rattle.std.specs.Prelude.{◌≡◌, ◌+◌, ◌<◌, ◌≤◌, ℕ, IfOk, IfErr, IfSome, Some, None, find, length, not, slice_get, if◌then◌else◌};
 ghost use Rattle.std.specs.Option.{option_copied};
 ghost use Rattle.fsd_formats.specs.NamePage.{FitsEntry};
+ghost use Rattle.fsd_formats.specs.declared.entry.Entry.{Entry};
 ghost use Rattle.fsd_table.specs.Pages.{page_at};
 ghost use Rattle.fsd_table.specs.Table.{top};
 ghost use Rattle.fsd_table.specs.Tree.{IsTree, table_of};
@@ -70,15 +71,25 @@ pub fn find<T: Pages>(t: &mut T, key: &Key) -> Result<Option<FoundEntry>, TreeFa
     }
 }
 
+// Whether entry `i` stands before a place.
+fn stands_before(entries: &Entries, i: u32, cut: &Cut) -> bool
+    requires { i < length entries.now }
+    ensures { (e : Entry) × (slice_get entries.now i ≡ Some e) × (result ≡ is_before cut.now e.key) }
+{
+    match cut {
+        Cut::UpTo(last) => !entries.compare(i, last).is_gt(),
+        other => other.is_before(&entries.get(i).key),
+    }
+}
+
 // The first entry behind a place between keys.
 fn first_behind(entries: &Entries, cut: &Cut) -> Option<Entry>
     ensures first { result ≡ find (λ e. not (is_before cut.now e.key)) entries.now }
     ensures fits { IfSome result FitsEntry }
 {
     for i in 0..entries.len() {
-        let entry = entries.get(i);
-        if !cut.is_before(&entry.key) {
-            return Some(entry);
+        if !stands_before(entries, i, cut) {
+            return Some(entries.get(i));
         }
     }
     None

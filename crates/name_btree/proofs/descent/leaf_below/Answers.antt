@@ -45,35 +45,35 @@ loop-above-init g c =
       again = λ e same h. h;
     }
 
-pub returns-in_err-child_node-clause-failed : goal.returns-in_err-child_node-clause-failed
-returns-in_err-child_node-clause-failed g c =
-    let s = g.T.Pages.step c.child_node.new.t in
-    let fault = c.in_err-child_node.field-0.0 in
-    let failed = c.in_err-child_node.ensures.failed in
-    let on : ShowsEach s (λ pages. IsVisitedWay pages c.args.above c.args.start c.loop-above.above c.loop-above.way) = λ pages agrees. c.loop-above.invariant.visited pages (agrees_before (g.T.Pages.step c.loop-above.t) s pages c.in_err-child_node.ensures.calls.looks agrees) in
+pub returns-in_err-read_child-clause-failed : goal.returns-in_err-read_child-clause-failed
+returns-in_err-read_child-clause-failed g c =
+    let s = g.T.Pages.step c.read_child.new.t in
+    let fault = c.in_err-read_child.field-0.0 in
+    let failed = c.in_err-read_child.ensures.failed in
+    let on : ShowsEach s (λ pages. IsVisitedWay pages c.args.above c.args.start c.loop-above.above c.loop-above.way) = λ pages agrees. c.loop-above.invariant.visited pages (agrees_before (g.T.Pages.step c.loop-above.t) s pages c.in_err-read_child.ensures.calls.looks agrees) in
     let p = err_from_is_err_and c.from_residual.result c.from_residual.ensures.1 in
     rw (p.1, p.2) (record {
       cause = misfit_below s fault c.args.above c.args.start c.loop-above.above c.loop-above.way (on s.images (agrees_now s)) failed.cause;
       shown = shown_below s fault c.args.above c.args.start c.loop-above.above c.loop-above.way on failed.cause failed.shown;
     })
 
-pub returns-in_err-child_node-clause-calls : goal.returns-in_err-child_node-clause-calls
-returns-in_err-child_node-clause-calls g c =
+pub returns-in_err-read_child-clause-calls : goal.returns-in_err-read_child-clause-calls
+returns-in_err-read_child-clause-calls g c =
     let p = err_from_is_err_and c.from_residual.result c.from_residual.ensures.1 in
-    rw (p.1, p.2) (reaches_then g.T.Pages g.met.T.Pages.then c.args.t.now c.loop-above.t c.child_node.new.t c.loop-above.invariant.calls c.in_err-child_node.ensures.calls)
+    rw (p.1, p.2) (reaches_then g.T.Pages g.met.T.Pages.then c.args.t.now c.loop-above.t c.read_child.new.t c.loop-above.invariant.calls c.in_err-read_child.ensures.calls)
 
 pub returns-in-Leaf-clause-calls : goal.returns-in-Leaf-clause-calls
-returns-in-Leaf-clause-calls g c = reaches_then g.T.Pages g.met.T.Pages.then c.args.t.now c.loop-above.t c.child_node.new.t c.loop-above.invariant.calls c.in_ok-child_node.ensures.calls
+returns-in-Leaf-clause-calls g c = reaches_then g.T.Pages g.met.T.Pages.then c.args.t.now c.loop-above.t c.read_child.new.t c.loop-above.invariant.calls c.in_ok-read_child.ensures.calls
 
 -- the leaf at the place, and what stands beside the way
 pub returns-in-Leaf-clause-found : goal.returns-in-Leaf-clause-found
 returns-in-Leaf-clause-found g c =
-    let s = g.T.Pages.step c.child_node.new.t in
-    let looks = c.in_ok-child_node.ensures.calls.looks in
+    let s = g.T.Pages.step c.read_child.new.t in
+    let looks = c.in_ok-read_child.ensures.calls.looks in
     let is = c.loop-above.invariant in
     let w = c.loop-above.way in
     let d = w.child in
-    let r = c.in_ok-child_node.ensures.read in
+    let r = c.in_ok-read_child.ensures.read in
     let entries = c.in-Leaf.entries in
     let used : is_spare s.spares d.page ≡ false = ap (λ (x : List Bool). is_spare x d.page) looks.spares ∙ r.used in
     let has : page_at s.images d.page ≡ Some (Leaf entries) = r.node ∙ ap (λ (n : Node). Some (content_of n)) c.in-Leaf.is in
@@ -107,7 +107,7 @@ returns-in-Leaf-clause-found g c =
 
 pub loop-above-preserved : goal.loop-above-preserved
 loop-above-preserved g c =
-    let s = g.T.Pages.step c.child_node.new.t in
+    let s = g.T.Pages.step c.read_child.new.t in
     let before = is_before c.args.cut.now in
     let start = c.args.start in
     let w = c.loop-above.way in
@@ -116,39 +116,39 @@ loop-above-preserved g c =
     let least = c.loop-above.invariant.least in
     let one : gone + 1 ≡ (above + 1) - c.args.above = omega arith in
     let ways = c.in-Interior.ways in
-    let used : is_spare s.spares w.child.page ≡ false = ap (λ (x : List Bool). is_spare x w.child.page) c.in_ok-child_node.ensures.calls.looks.spares ∙ c.in_ok-child_node.ensures.read.used in
+    let used : is_spare s.spares w.child.page ≡ false = ap (λ (x : List Bool). is_spare x w.child.page) c.in_ok-read_child.ensures.calls.looks.spares ∙ c.in_ok-read_child.ensures.read.used in
     let at : ShowsEach s (λ pages. page_at pages w.child.page ≡ Some (Interior ways.0 ways.1)) =
-    λ pages is. agrees_at s pages w.child.page c.in_ok-child_node.ensures.read.reached used is ∙ c.in_ok-child_node.ensures.read.node ∙ ap (λ (n : Node). Some (content_of n)) c.in-Interior.is in
-    let old : (pages : List (List ℕ)) → Agrees pages s → Agrees pages (g.T.Pages.step c.loop-above.t) = λ pages is. agrees_before (g.T.Pages.step c.loop-above.t) s pages c.in_ok-child_node.ensures.calls.looks is in
+    λ pages is. agrees_at s pages w.child.page c.in_ok-read_child.ensures.read.reached used is ∙ c.in_ok-read_child.ensures.read.node ∙ ap (λ (n : Node). Some (content_of n)) c.in-Interior.is in
+    let old : (pages : List (List ℕ)) → Agrees pages s → Agrees pages (g.T.Pages.step c.loop-above.t) = λ pages is. agrees_before (g.T.Pages.step c.loop-above.t) s pages c.in_ok-read_child.ensures.calls.looks is in
     let new : Way = c.way_to-way.result in
     let is = sym c.way_to-way.ensures in
     let P = g.T.Pages in
     let first = c.args.t.now in
-    let mid = c.child_node.new.t in
+    let mid = c.read_child.new.t in
     let low = c.loop-above-test.true in
-    let here : page_at s.images w.child.page ≡ Some (Interior ways.0 ways.1) = c.in_ok-child_node.ensures.read.node ∙ ap (λ (n : Node). Some (content_of n)) c.in-Interior.is in
+    let here : page_at s.images w.child.page ≡ Some (Interior ways.0 ways.1) = c.in_ok-read_child.ensures.read.node ∙ ap (λ (n : Node). Some (content_of n)) c.in-Interior.is in
     let takes : HasMet P c.args.above before start first → TakesNone P None c.loop-above.t mid = λ has.
-    c.in_ok-child_node.ensures.memory (met_here P before first above w c.loop-above.t low (c.loop-above.invariant.memory has)) in
+    c.in_ok-read_child.ensures.memory (met_here P before first above w c.loop-above.t low (c.loop-above.invariant.memory has)) in
     record {
       least = omega arith;
       most = omega (arith, c.loop-above-test.true);
-      calls = reaches_then g.T.Pages g.met.T.Pages.then c.args.t.now c.loop-above.t c.child_node.new.t c.loop-above.invariant.calls c.in_ok-child_node.ensures.calls;
-      reaches = omega (arith, c.child_node.ensures.reaches, c.loop-above.invariant.reaches);
-      narrow = subst (Narrows before start.low) is (way_narrows before (above + 1) w ways.0 ways.1 start.low (subst (λ (n : Node). content_fits w.child.low w.child.high (Some (content_of n)) ≡ true) c.in-Interior.is c.in_ok-child_node.ensures.read.fits) c.loop-above.invariant.narrow);
+      calls = reaches_then g.T.Pages g.met.T.Pages.then c.args.t.now c.loop-above.t c.read_child.new.t c.loop-above.invariant.calls c.in_ok-read_child.ensures.calls;
+      reaches = omega (arith, c.read_child.ensures.reaches, c.loop-above.invariant.reaches);
+      narrow = subst (Narrows before start.low) is (way_narrows before (above + 1) w ways.0 ways.1 start.low (subst (λ (n : Node). content_fits w.child.low w.child.high (Some (content_of n)) ≡ true) c.in-Interior.is c.in_ok-read_child.ensures.read.fits) c.loop-above.invariant.narrow);
       path = λ pages seen. subst (λ (x : Way). IsPath c.args.cut.now pages start x.child) is (path_down c.args.cut.now pages start (above + 1) w ways.0 ways.1 (at pages seen) (c.loop-above.invariant.path pages (old pages seen)));
       way = λ pages seen. subst (λ (n : ℕ). IsOnWay before pages start n new) one
           (subst (λ (x : Way). IsOnWay before pages start (gone + 1) x) is
           (way_down before (cuts_monotone c.args.cut.now) pages start gone (above + 1) w ways.0 ways.1 (at pages seen) (c.loop-above.invariant.way pages (old pages seen))));
       visited = λ pages seen. subst (λ (x : Way). IsVisitedWay pages c.args.above start (above + 1) x) is
           (visited_down before pages c.args.above start above w ways.0 ways.1 (at pages seen) c.loop-above-test.true (c.loop-above.invariant.visited pages (old pages seen)));
-      down = subst (IsDownWay s before c.args.above start (above + 1)) is (down_goes (g.T.Pages.step c.loop-above.t) s before c.args.above start above w ways.0 ways.1 c.in_ok-child_node.ensures.calls.looks at c.loop-above.invariant.down);
+      down = subst (IsDownWay s before c.args.above start (above + 1)) is (down_goes (g.T.Pages.step c.loop-above.t) s before c.args.above start above w ways.0 ways.1 c.in_ok-read_child.ensures.calls.looks at c.loop-above.invariant.down);
       memory = λ has. subst (λ (x : Way). IsMet P before first (above + 1) x mid) is (met_down P before first above w c.loop-above.t low (c.loop-above.invariant.memory has) mid (takes has) ways.0 ways.1 here);
       back = λ has. subst (λ (x : Way). IsBack P c.args.above start (above + 1) x mid) is
           (back_down P c.args.above start above w c.loop-above.t mid low (takes has) (c.loop-above.invariant.back has) before ways.0 ways.1
           (record {
             there = (takes has).stays w.child.page (met_here P before first above w c.loop-above.t low (c.loop-above.invariant.memory has));
             used = used;
-            fits = subst (λ (n : Node). content_fits w.child.low w.child.high (Some (content_of n)) ≡ true) c.in-Interior.is c.in_ok-child_node.ensures.read.fits;
+            fits = subst (λ (n : Node). content_fits w.child.low w.child.high (Some (content_of n)) ≡ true) c.in-Interior.is c.in_ok-read_child.ensures.read.fits;
             has = here;
           }));
       again = λ e same h.
@@ -172,47 +172,47 @@ returns-clause-reaches g c = omega (arith, c.loop-above.invariant.reaches, c.loo
 
 -- ---- memory is not wanting
 
-pub returns-in_err-child_node-clause-memory : goal.returns-in_err-child_node-clause-memory
-returns-in_err-child_node-clause-memory g c = λ has.
+pub returns-in_err-read_child-clause-memory : goal.returns-in_err-read_child-clause-memory
+returns-in_err-read_child-clause-memory g c = λ has.
     let P = g.T.Pages in
     let before = is_before c.args.cut.now in
     let is = c.loop-above.invariant.memory has in
-    let takes = c.in_err-child_node.ensures.memory (met_here P before c.args.t.now c.loop-above.above c.loop-above.way c.loop-above.t c.loop-above-test.true is) in
+    let takes = c.in_err-read_child.ensures.memory (met_here P before c.args.t.now c.loop-above.above c.loop-above.way c.loop-above.t c.loop-above-test.true is) in
     let p = err_from_is_err_and c.from_residual.result c.from_residual.ensures.1 in
-    rw (p.1, p.2) (record { none = memory_then P c.args.t.now c.loop-above.t c.child_node.new.t is.none takes; left = tt; back = tt })
+    rw (p.1, p.2) (record { none = memory_then P c.args.t.now c.loop-above.t c.read_child.new.t is.none takes; left = tt; back = tt })
 
-pub returns-in_err-child_node-clause-again : goal.returns-in_err-child_node-clause-again
-returns-in_err-child_node-clause-again g c = λ e same h.
+pub returns-in_err-read_child-clause-again : goal.returns-in_err-read_child-clause-again
+returns-in_err-read_child-clause-again g c = λ e same h.
     let P = g.T.Pages in
     let first = c.args.t.now in
     let before = is_before c.args.cut.now in
     let has = subst (λ (k : Cut). HasMet P c.args.above (is_before k) c.args.start first) (sym same) (lead_met P (max_height - c.args.above) first e c.args.start [] h) in
     let is = c.loop-above.invariant.memory has in
-    let takes = c.in_err-child_node.ensures.memory (met_here P before first c.loop-above.above c.loop-above.way c.loop-above.t c.loop-above-test.true is) in
+    let takes = c.in_err-read_child.ensures.memory (met_here P before first c.loop-above.above c.loop-above.way c.loop-above.t c.loop-above-test.true is) in
     let p = err_from_is_err_and c.from_residual.result c.from_residual.ensures.1 in
-    rw (p.1, p.2) (lead_outer P _ first c.child_node.new.t e c.loop-above.above c.loop-above.way.child c.in_err-child_node.field-0.0 c.loop-above-test.true
-    (memory_then P first c.loop-above.t c.child_node.new.t is.none takes) (c.loop-above.invariant.again e same h) c.in_err-child_node.ensures.failed.cause)
+    rw (p.1, p.2) (lead_outer P _ first c.read_child.new.t e c.loop-above.above c.loop-above.way.child c.in_err-read_child.field-0.0 c.loop-above-test.true
+    (memory_then P first c.loop-above.t c.read_child.new.t is.none takes) (c.loop-above.invariant.again e same h) c.in_err-read_child.ensures.failed.cause)
 
 pub returns-in-Leaf-clause-memory : goal.returns-in-Leaf-clause-memory
 returns-in-Leaf-clause-memory g c = λ has.
     let P = g.T.Pages in
     let before = is_before c.args.cut.now in
     let w = c.loop-above.way in
-    let r = c.in_ok-child_node.ensures.read in
+    let r = c.in_ok-read_child.ensures.read in
     let is = c.loop-above.invariant.memory has in
     let there = met_here P before c.args.t.now c.loop-above.above w c.loop-above.t c.loop-above-test.true is in
-    let takes = c.in_ok-child_node.ensures.memory there in
+    let takes = c.in_ok-read_child.ensures.memory there in
     let node = r.node ∙ ap (λ (n : Node). Some (content_of n)) c.in-Leaf.is in
-    let safe : IsReadSafe P c.child_node.new.t w.child (Leaf c.in-Leaf.entries) = record {
+    let safe : IsReadSafe P c.read_child.new.t w.child (Leaf c.in-Leaf.entries) = record {
       there = takes.stays w.child.page there;
-      used = ap (λ (x : List Bool). is_spare x w.child.page) c.in_ok-child_node.ensures.calls.looks.spares ∙ r.used;
+      used = ap (λ (x : List Bool). is_spare x w.child.page) c.in_ok-read_child.ensures.calls.looks.spares ∙ r.used;
       fits = subst (λ (n : Node). content_fits w.child.low w.child.high (Some (content_of n)) ≡ true) c.in-Leaf.is r.fits;
       has = node;
     } in
     record {
-      none = memory_then P c.args.t.now c.loop-above.t c.child_node.new.t is.none takes;
-      left = λ none. met_left P before c.args.t.now c.loop-above.above w c.loop-above.t c.loop-above-test.true is c.child_node.new.t takes c.in-Leaf.entries node none;
-      back = back_ends P c.args.above c.args.start c.loop-above.above w c.loop-above.t c.child_node.new.t c.loop-above-test.true takes (c.loop-above.invariant.back has) c.in-Leaf.entries safe w.next;
+      none = memory_then P c.args.t.now c.loop-above.t c.read_child.new.t is.none takes;
+      left = λ none. met_left P before c.args.t.now c.loop-above.above w c.loop-above.t c.loop-above-test.true is c.read_child.new.t takes c.in-Leaf.entries node none;
+      back = back_ends P c.args.above c.args.start c.loop-above.above w c.loop-above.t c.read_child.new.t c.loop-above-test.true takes (c.loop-above.invariant.back has) c.in-Leaf.entries safe w.next;
     }
 
 pub returns-in-Leaf-clause-again : goal.returns-in-Leaf-clause-again
@@ -222,9 +222,9 @@ returns-in-Leaf-clause-again g c = λ e same h.
     let w = c.loop-above.way in
     let has = subst (λ (k : Cut). HasMet P c.args.above (is_before k) c.args.start first) (sym same) (lead_met P (max_height - c.args.above) first e c.args.start [] h) in
     let is = c.loop-above.invariant.memory has in
-    let takes = c.in_ok-child_node.ensures.memory (met_here P (is_before c.args.cut.now) first c.loop-above.above w c.loop-above.t c.loop-above-test.true is) in
-    lead_ends P first c.child_node.new.t e c.loop-above.above w.child c.in-Leaf.entries c.loop-above-test.true (memory_then P first c.loop-above.t c.child_node.new.t is.none takes)
-    (c.in_ok-child_node.ensures.read.node ∙ ap (λ (n : Node). Some (content_of n)) c.in-Leaf.is) (c.loop-above.invariant.again e same h)
+    let takes = c.in_ok-read_child.ensures.memory (met_here P (is_before c.args.cut.now) first c.loop-above.above w c.loop-above.t c.loop-above-test.true is) in
+    lead_ends P first c.read_child.new.t e c.loop-above.above w.child c.in-Leaf.entries c.loop-above-test.true (memory_then P first c.loop-above.t c.read_child.new.t is.none takes)
+    (c.in_ok-read_child.ensures.read.node ∙ ap (λ (n : Node). Some (content_of n)) c.in-Leaf.is) (c.loop-above.invariant.again e same h)
 
 pub returns-clause-memory : goal.returns-clause-memory
 returns-clause-memory g c = λ has. record { none = (c.loop-above.invariant.memory has).none; left = tt; back = tt }
