@@ -1,4 +1,4 @@
--- What a mount has of a name table once it is surveyed as it stands at home.
+-- What a mount has of a name table once it is opened: surveyed as it stands at home, or by its saved map.
 use Rattle.std.specs.Prelude.{◌≡◌, ⊤, ◌<◌, ◌+◌, ℕ, false, not, List, [], Some, length, replicate, slice_index_or, count_by}
 use Rattle.volume_layout.specs.declared.layout.Layout.{Layout}
 use Rattle.page_cache.specs.Cache.{cached_bytes, no_pages, pins_of}
@@ -14,6 +14,7 @@ use Rattle.fsd_sound.specs.declared.fault.MountFault.{MountFault}
 use Rattle.fsd_sound.specs.declared.fault.MountFault.TheVariants.{Device, Lost, Memory, Unsound}
 use Rattle.cached_table.specs.Homes.{home_by}
 use Rattle.table_survey.specs.Claims.{IsOfData, data_area, whole_area}
+use Rattle.saved_map.specs.declared.believing.SavedMap.{SavedMap}
 use Rattle.cached_table.specs.declared.opening.Opened.{Opened}
 use Rattle.cached_table.specs.declared.opening.Room.{Room}
 
@@ -41,6 +42,10 @@ pub record IsOpened (l : Layout) (o : Opened) : Type 0 where
   pub unpinned : (page : ℕ) → pins_of o.cache page ≡ 0
   pub pages : length o.free_pages ≡ l.pages
   pub map : IsOfData l o.map
+
+-- by its saved map: no page is in memory, and free are the sectors and the pages that the map marks
+abbrev pub opened_by : SavedMap → Opened
+opened_by saved = record { cache = no_pages frames; free_pages = saved.free_pages.items; map = saved.map; versions = saved.versions }
 
 -- why a table isn't opened
 abbrev pub IsOpenFault : MountFault → Type 0

@@ -1,4 +1,4 @@
-//! A name table over a cache: looked up, edited, surveyed, and opened as it stands at home.
+//! A name table over a cache: looked up, edited, surveyed, and opened as it stands at home or by its saved map.
 #![tactic(auto)]
 
 mod changing;
@@ -13,5 +13,5 @@ mod table;
 
 pub use entering::are_taken;
 pub use looking::told;
-pub use opening::{Opened, open_table};
+pub use opening::{Opened, open_saved, open_table};
 pub use table::CachedTable;

@@ -1,11 +1,13 @@
-//! The opening of a name table: it is surveyed as it stands at home.
+//! The opening of a name table: by its saved map, or it is surveyed as it stands at home.
 ghost use Rattle.std.specs.Prelude.{◌≡◌, ◌≤◌, ◌<◌, ◌^◌, ℕ, Ok, IfOk, IfErr, false, length, not, replicate, slice_index_or};
 ghost use Rattle.volume_layout.specs.Layout.{IsPlanned};
 ghost use Rattle.sector_disk.specs.Calls.{OnlyReads, device_in};
 ghost use Rattle.fsd_sound.specs.Lost.{AreHomes, LostIn};
 ghost use Rattle.fsd_sound.specs.Mounting.{device_of_mount};
+ghost use Rattle.fsd_sound.specs.declared.fault.MountFault.TheVariants.{Memory};
+ghost use Rattle.saved_map.specs.Reading.{IsSavedMap};
 ghost use Rattle.cached_table.specs.Homes.{KnowsHomes};
-ghost use Rattle.cached_table.specs.Opening.{IsNoTable, IsOpenFault, IsOpened, IsRoomFor, IsTableOf, home_pages};
+ghost use Rattle.cached_table.specs.Opening.{IsNoTable, IsOpenFault, IsOpened, IsRoomFor, IsTableOf, home_pages, opened_by};
 
 use crate::homes::Homes;
 use crate::surveying::{survey_fault, survey_in};
@@ -13,6 +15,7 @@ use alloc_map::Map;
 use fsd_sound::MountFault;
 use page_cache::Cache;
 use run_table::Run;
+use saved_map::SavedMap;
 use sector_disk::Machine;
 use std::alloc::{AllocError, Global};
 use table_pages::FreePages;
@@ -21,7 +24,7 @@ use volume_layout::Layout;
 // So many pages are in memory at most.
 const FRAMES: usize = 256;
 
-/// What a mount has of a name table once it is surveyed.
+/// What a mount has of a name table once it is opened.
 #[derive(Drop)]
 pub struct Opened {
     pub cache: Cache,
@@ -124,6 +127,30 @@ fn survey_room<M: Machine>(m: &mut M, l: &Layout, room: Room) -> Result<Opened, 
             })
         }
         Err(fault) => Err(survey_fault(fault, home_a)),
+    }
+}
+
+/// Opens the name table of a layout by its saved map: no page of it is read. Needs room for 256 pages.
+pub fn open_saved(alloc: Global, l: &Layout, saved: SavedMap) -> Result<Opened, MountFault>
+    requires planned { IsPlanned l.now }
+    requires of { IsSavedMap l.now saved }
+    ensures opened { IfOk result (IsOpened l.now) }
+    ensures is { IfOk result (λ o. o ≡ opened_by saved) }
+    ensures memory { IfErr result (λ fault. fault ≡ Memory) }
+{
+    let SavedMap {
+        map,
+        free_pages,
+        versions,
+    } = saved;
+    match Cache::new(alloc, FRAMES) {
+        Ok(cache) => Ok(Opened {
+            cache,
+            free_pages: FreePages::of(free_pages),
+            map,
+            versions,
+        }),
+        Err(_) => Err(MountFault::Memory),
     }
 }
 

@@ -7,7 +7,7 @@ ghost use Rattle.fsd_bytes.specs.Bytes.{with_bytes};
 /// Bytes in a slot.
 pub const SLOT_BYTES: usize = 520;
 
-// Bytes of a sector that are summed in one loop of a known length, which takes a third of the time of one over all.
+// Bytes of a sector that are summed in one loop of a known length, which takes about half the time of one over all.
 const PART: usize = 64;
 
 // The sum of each of these bytes times its place, where so many stand before the first.

@@ -119,13 +119,21 @@ leaf_in bytes i small h =
 
 -- ---- one entry
 
-pub named_entry : (e : Entry) → is_entry e ≡ true → is_name e.key.name ≡ true
-named_entry e is =
+pub named_by : (bytes name : List ℕ) → is_name name ≡ true → bytes ≡ name → name_of bytes ≡ Ok name
+named_by bytes name is same = ap name_of same ∙ named (name_fault name) name (sym (name_or_fault name) ∙ is)
+  where
+    named : (o : Option NameFault) (name : List ℕ) → is_none o ≡ true → named_unless o name ≡ Ok name
+    named None name h = refl
+    named (Some fault) name h = absurd cc
+
+pub named_entry : (e : Entry) (bytes : List ℕ) → is_entry e ≡ true → bytes ≡ e.key.name → name_of bytes ≡ Ok e.key.name
+named_entry e bytes is same =
     let p5 = and_parts (is_key e.key && nat_le e.keep max_keep && nat_le e.length max_length && are_runs e.runs) (total e.runs == sectors_for e.length) is in
     let p4 = and_parts (is_key e.key && nat_le e.keep max_keep && nat_le e.length max_length) (are_runs e.runs) p5.0 in
     let p3 = and_parts (is_key e.key && nat_le e.keep max_keep) (nat_le e.length max_length) p4.0 in
     let p2 = and_parts (is_key e.key) (nat_le e.keep max_keep) p3.0 in
-    (and_parts (is_name e.key.name) (nat_le 1 e.key.version) p2.0).0
+    let p1 = and_parts (is_name e.key.name) (nat_le 1 e.key.version) p2.0 in
+    named_by bytes e.key.name p1.0 same
 
 pub runs_few : (e : Entry) → is_entry e ≡ true → length e.runs ≤ 8
 runs_few e is =

@@ -1,5 +1,5 @@
 //! `FreePages`. A clause sees them as a flag for each page of the table: whether it is free.
-ghost use Rattle.std.specs.Prelude.{◌≡◌, ◌+◌, ◌<◌, ◌≤◌, true, false, IfOk, length, replicate, drop, count_by, position, option_map, slice_index_or, slice_set};
+ghost use Rattle.std.specs.Prelude.{◌≡◌, ◌+◌, ◌<◌, ◌≤◌, ◌^◌, true, false, IfOk, length, replicate, drop, count_by, position, option_map, slice_index_or, slice_set};
 
 use std::alloc::{AllocError, Global};
 use std::marker::Model;
@@ -34,6 +34,21 @@ impl FreePages {
     {
         let flags = vec![in alloc; false; pages as usize]?;
         Ok(FreePages { flags })
+    }
+
+    /// The pages with these flags.
+    pub fn of(flags: Vec<bool>) -> FreePages
+        requires { length flags.items < 2 ^ 32 }
+        ensures { result ≡ flags.items }
+    {
+        FreePages { flags }
+    }
+
+    /// Of each page whether it is free.
+    pub fn as_slice(&self) -> &[bool]
+        ensures { result.now ≡ self.now }
+    {
+        self.flags.as_slice()
     }
 
     /// The number of pages of the table.

@@ -1,18 +1,18 @@
-use Rattle.std.proofs.Common.{◌≡◌, ℕ, ◌+◌, ◌≤◌, true, drop, sym, subst, ◌∙◌, arith}
-use Rattle.std.specs.Prelude.{slice_range}
+use Rattle.std.proofs.Common.{◌≡◌, ℕ, ◌+◌, ◌≤◌, drop, refl, ap, sym, subst, ◌∙◌, arith}
+use Rattle.std.specs.Prelude.{slice_range, Ok}
 use Rattle.fsd_bytes.specs.Bytes.{u8_at}
-use Rattle.fsd_bytes.specs.Names.{is_name}
 use Rattle.name_page.specs.Reading.{entry_at}
 use Rattle.name_page.proofs.ReadingLaws.{named_entry, runs_few}
 use Rattle.name_page.proofs.reading.entry_at.Goals as goal
 use Rattle.run_table.proofs.RunLaws.{count_runs}
 
-pub of-requires : goal.of-requires
-of-requires c =
+pub unwrap-requires : goal.unwrap-requires
+unwrap-requires c =
     let e = entry_at c.args.place c.args.b.now in
     let n : c.from.result ≡ u8_at c.args.place c.args.b.now = c.from.ensures ∙ c.u8_at.ensures in
-    let P : ℕ → Type 0 = λ (k : ℕ). is_name (slice_range c.args.b.now (c.args.place + 1) (c.args.place + 1 + k)) ≡ true in
-    subst P (sym n) (named_entry e c.requires.entry)
+    let ok : c.parse.result ≡ Ok e.key.name =
+    c.parse.ensures ∙ named_entry e (slice_range c.args.b.now (c.args.place + 1) (c.args.place + 1 + c.from.result)) c.requires.entry (ap (λ (k : ℕ). slice_range c.args.b.now (c.args.place + 1) (c.args.place + 1 + k)) n) in
+    rw ok refl
 
 pub runs_at-requires-clause-count : goal.runs_at-requires-clause-count
 runs_at-requires-clause-count c =
