@@ -33,6 +33,12 @@ pub record IsOfMap (l : Layout) (counts : MapCounts) (sectors : List (List ℕ))
   pub flags : (page : ℕ) → page < l.pages → slice_index_or saved.free_pages.items page false ≡ is_set_in sectors (home_a l page)
   pub versions : saved.versions ≡ counts.versions
 
+-- It marks what some sectors do.
+pub record IsSavedMap (l : Layout) (saved : SavedMap) : Type 0 where
+  pub counts : MapCounts
+  pub sectors : List (List ℕ)
+  pub is : IsOfMap l counts sectors saved
+
 -- It is of a map of this epoch, which has no more sectors than the table had pages in use. The image had this map as the
 -- reading began, and a copy of its anchor said that the volume was closed in the epoch.
 pub record Believes {D : Type 0} (M : Ghosts D) (l : Layout) (epoch : ℕ) (old new : D) (saved : SavedMap) : Type 0 where
