@@ -32,7 +32,7 @@ use Rattle.fsd_runs.specs.Sessions.{session_over}
 use Rattle.fsd_runs.specs.Runs.{Goes, GoesSo, IsCutAt, IsThrough, Course, answered, errand_in, run_end, run_status, run_turns, said_in}
 use Rattle.volume_contract.specs.Mount.{IsSoundAt}
 use Rattle.volume_turns.specs.Status.{CountsNone}
-use Rattle.volume_turns.proofs.RootedLaws.{leaves_roots}
+use Rattle.volume_turns.proofs.RootedLaws.{leaves_roots, was_stops}
 use Rattle.cfs_program.specs.Opening.{IsSoundDisk}
 use Rattle.cfs_program.proofs.AnchorLaws.{last_before}
 
@@ -209,13 +209,17 @@ module _ {D : Type 0} (M : Ghosts D) (request : Request) (input rest : List ℕ)
     (sound : IsSoundDisk l windows h f (M.now a)) (short : AreShort (M.now a).windows)
     (ahead : StopsOnly M a b (LeftBefore l windows h f (M.now a))) (found : Keeps (M.now a) (M.now b)) (same : CountsNone (M.report a) (M.report b))
     (at_a : IsTimed M a) (at_b : IsTimed M b) (synced : IsSynced (M.now b)) (time : Elapses (M.moment a) (M.moment b) (M.left_since a) (M.left_since b) (Before (M.now a) (M.now b))) where
-  opened_unmounted : LeavesUnmounted request l windows h f (StopsOnly M b c) (IsHeld M c) (M.report b) (M.report c) (M.now b) (M.now c) status
-      → LeavesUnmounted request l windows h f (StopsOnly M a c) (IsHeld M c) (M.report a) (M.report c) (M.now a) (M.now c) status
+  opened_unmounted : LeavesUnmounted request l windows h f (M.left_since b (M.now b).synced) (StopsOnly M b c) (IsHeld M c) (M.report b) (M.report c) (M.now b) (M.now c) status
+      → LeavesUnmounted request l windows h f (M.left_since a (M.now a).synced) (StopsOnly M a c) (IsHeld M c) (M.report a) (M.report c) (M.now a) (M.now c) status
   opened_unmounted u = record {
     moments = then_on M.moment (stops M) a b c (LeftBefore l windows h f (M.now a)) ahead
         (leaves_more M.moment (stops M) b c (LeftBefore l windows h f (M.now b)) (LeftBefore l windows h f (M.now a)) (before_on l windows h f (M.now a) sound short (M.now b) found) u.moments);
     exit = before_on l windows h f (M.now a) sound short (M.now b) found (M.now c) u.exit;
     held = u.held;
+    says = then_on M.moment (stops M) a b c (λ left. EachSaid left.image (WasSaid (M.left_since a (M.now a).synced)))
+        (was_stops M l a b at_a at_b time.keeps (found_says M l (weak_of windows) a b c at_a at_b synced time found))
+        (leaves_more M.moment (stops M) b c (λ left. EachSaid left.image (WasSaid (M.left_since b (M.now b).synced))) (λ left. EachSaid left.image (WasSaid (M.left_since a (M.now a).synced)))
+        (λ left each k planned there. was_found M l (weak_of windows) a b c at_a at_b synced time found k (each k planned there)) u.says);
     ends = spent_or l windows h f (M.now a) sound short (M.now b) found request (M.report a) (M.report b) (M.report c) same (M.now c) status _ u.ends;
   }
 

@@ -169,7 +169,7 @@ module _ {D : Type 0} (M : Ghosts D) (x : Life D) (h : List Change) (f : ℕ) (l
   input = input_for x.request (M.ledger x.from).input
 
   abbrev Unmounted : Type 0
-  Unmounted = LeavesUnmounted x.request l windows h f (StopsOnly M x.from x.to) (IsHeld M x.to) (M.report x.from) (M.report x.to) (M.now x.from) (M.now x.to) x.status
+  Unmounted = LeavesUnmounted x.request l windows h f (M.left_since x.from (M.now x.from).synced) (StopsOnly M x.from x.to) (IsHeld M x.to) (M.report x.from) (M.report x.to) (M.now x.from) (M.now x.to) x.status
 
   abbrev Mounted : Type 0
   Mounted = LeavesMounted x.request input (M.ledger x.to).input l windows h f (M.left_since x.to) (stops M x.to) (M.moment x.from) (M.left_since x.from (M.now x.from).synced) (StopsOnly M x.from x.to) (IsHeld M x.to) (M.report x.from) (M.report x.to) (M.now x.from) (M.now x.to) x.status

@@ -125,7 +125,7 @@ broken_otherwise request Undone UnderWay before after turns old new result (inr 
     by r why outside e = absurd outside
 
 module _ (request : Request) (input rest : List ℕ) (l : Layout) (windows : List WeakRun) (h : List Change) (f : ℕ) (Past Stops : ℕ → Moment → Type 0) (began : ℕ) (Had : Moment → Type 0) (Only Held : (Moment → Type 0) → Type 0) (before after : Report) (old new : Moment) (result : ℕ) where
-  unmounted_otherwise : LeavesUnmounted request l windows h f Only Held before after old new result → NotThree result
+  unmounted_otherwise : LeavesUnmounted request l windows h f Had Only Held before after old new result → NotThree result
   unmounted_otherwise u e = by u.ends
     where
       by : IsSpent old new result ⊎ (IsUnsaid before after result ⊎ IsBrokenOff request Unbegun Whatever before after (blank ∷ []) old new result) → ⊥

@@ -218,11 +218,12 @@ pub record IsSpent (old new : Moment) (result : ℕ) : Type 0 where
 
 -- The mount did not settle: nothing is changed, and a fault is said, but where the output failed. It is one from
 -- outside, or the image's epochs are used up. Whichever of the moments since the last sync is on the disk, it is sound as
--- it was.
-pub record LeavesUnmounted (request : Request) (l : Layout) (windows : List WeakRun) (h : List Change) (f : ℕ) (Only Held : (Moment → Type 0) → Type 0) (before after : Report) (old new : Moment) (result : ℕ) : Type 0 where
+-- it was. At each stop a root says no layout that none said as the run began.
+pub record LeavesUnmounted (request : Request) (l : Layout) (windows : List WeakRun) (h : List Change) (f : ℕ) (Had : Moment → Type 0) (Only Held : (Moment → Type 0) → Type 0) (before after : Report) (old new : Moment) (result : ℕ) : Type 0 where
   pub moments : Only (LeftBefore l windows h f old)
   pub exit : LeftBefore l windows h f old new
   pub held : Held (λ c. IsSound l windows h f c.image)
+  pub says : Only (λ left. EachSaid left.image (WasSaid Had))
   pub ends : IsSpent old new result ⊎ (IsUnsaid before after result ⊎ IsBrokenOff request Unbegun Whatever before after (blank ∷ []) old new result)
 
 -- The mount's epoch is the next one behind that of the image, as its weak run may have worn.
@@ -273,7 +274,7 @@ IsSoundAsSaid l windows h f read i = (layout : Layout) → IsSaid l read layout 
 -- began, and Had the moments since the last sync then; Held is what each moment since the last sync has at the end.
 abbrev pub LeavesBy : Request → (input rest : List ℕ) → Layout → List WeakRun → List Change → ℕ → (Past Stops : ℕ → Moment → Type 0) → (began : ℕ) → (Had : Moment → Type 0) → (Only Held : (Moment → Type 0) → Type 0) → (before after : Report) → (old new : Moment) → (result : ℕ) → Type 0
 LeavesBy request input rest l windows h f Past Stops began Had Only Held before after old new result =
-    LeavesUnmounted request l windows h f Only Held before after old new result ⊎ LeavesMounted request input rest l windows h f Past Stops began Had Only Held before after old new result
+    LeavesUnmounted request l windows h f Had Only Held before after old new result ⊎ LeavesMounted request input rest l windows h f Past Stops began Had Only Held before after old new result
 
 -- so it is by the layout that the mount has read: this one, or one beside it, where a root says so
 abbrev pub LeavesSaid : Request → (input rest : List ℕ) → Layout → List WeakRun → List Change → ℕ → (Past Stops : ℕ → Moment → Type 0) → (began : ℕ) → (Had : Moment → Type 0) → (Only Held : (Moment → Type 0) → Type 0) → (before after : Report) → (old new : Moment) → (result : ℕ) → Type 0

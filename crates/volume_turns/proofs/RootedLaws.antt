@@ -52,8 +52,11 @@ module _ {D : Type 0} (M : Ghosts D) (own : Layout) (a : D) where
     synced : (M.now a).synced ≤ M.moment a
     synced = omega (arith, at_a.history.synced (M.moment a) (M.now a) at_a.here, at_a.dated)
 
+    was : (l : Layout) → Says l (M.now a).image → WasSaid Held l
+    was l said = (M.now a, at_a.history.sooner (M.now a).synced (M.moment a) (M.now a) synced at_a.here, said)
+
     some : (c : Moment) → SaysSome c → SaysWas c
-    some c says l planned there = ⊎_elim (λ same. inl same) (λ said. inr (M.now a, at_a.history.sooner (M.now a).synced (M.moment a) (M.now a) synced at_a.here, said)) (says l planned there)
+    some c says l planned there = ⊎_elim (λ same. inl same) (λ said. inr (was l said)) (says l planned there)
 
     said_stops : LeavesOnly M.moment M.left_since a b SaysSome → StopsOnly M a b SaysWas
     said_stops run = stops_by M a b SaysSome Held at_a at_b since run (λ c left. left) SaysWas some (λ last shown says left sooner lately either. ⊎_elim (λ held l planned there. inr (shown, held, there)) (some shown) either)
@@ -62,3 +65,8 @@ module _ {D : Type 0} (M : Ghosts D) (own : Layout) (a : D) where
     leaves_roots weak run rooted =
         leaves_more M.moment (stops M) a b (λ left. SaysWas left × IsRooted own weak (M.now a) left) (LeavesRoots own weak Held (M.now a)) (λ left x. record { says = x.0; replied = x.1 })
         (leaves_both M.moment (stops M) a b SaysWas (IsRooted own weak (M.now a)) (said_stops run) rooted)
+
+    -- where no root says what none said
+    pub was_stops : LeavesOnly M.moment M.left_since a b (λ c. SaysNoMore (M.now a).image c.image) → StopsOnly M a b (λ left. EachSaid left.image (WasSaid Held))
+    was_stops run = stops_by M a b (λ c. SaysNoMore (M.now a).image c.image) Held at_a at_b since run (λ c left. left) (λ left. EachSaid left.image (WasSaid Held)) (λ c less l planned there. was l (less l there))
+        (λ last shown less left sooner lately either. ⊎_elim (λ held l planned there. (shown, held, there)) (λ some_less l planned there. was l (some_less l there)) either)

@@ -33,6 +33,7 @@ use Rattle.fsd_texts.specs.Text.{fault_text}
 use Rattle.fsd_runs.specs.declared.request.Request.{Request}
 use Rattle.fsd_runs.specs.declared.request.Request.TheVariants.{One, Put, Restore}
 use Rattle.fsd_runs.specs.Errands.{ByFault, Cut, Turn, blank, errand_of, fault_status}
+use Rattle.fsd_sound.proofs.SaidLaws.{says_no_more_then, worn_says}
 use Rattle.fsd_runs.specs.Leaves.{CutCause, IfOne, IsBrokenOff, IsOutside, IsReplied, IsSpent, IsUnderWay, IsUndone, IsRooted, IsUnsaid, LeavesBy, LeavesRoots, Left, LeftBefore, LeftByTurns, SaysFault, Unbegun, Whatever}
 use Rattle.fsd_runs.specs.Sessions.{session_over}
 use Rattle.fsd_runs.specs.Runs.{Goes, IsCutAt, IsThrough, Course, GoesSo, answered, changes_in, errand_in, run_end, run_status, run_turns, said_in, turns_of}
@@ -48,7 +49,7 @@ use Rattle.volume_turns.proofs.HaltLaws.{broken_ends, broken_moments, held_behin
 use Rattle.volume_turns.proofs.LineLaws.{at_once_ends, excused}
 use Rattle.volume_turns.proofs.OneLaws.{fault_line, line_says}
 use Rattle.volume_turns.proofs.MountLaws.{as_known, before_left, known_length, known_sound, nothing_said, own_roots, run_left, run_under_way, run_undone, since_left, sound_to, starts}
-use Rattle.volume_turns.proofs.RootedLaws.{leaves_roots, mounted_says}
+use Rattle.volume_turns.proofs.RootedLaws.{leaves_roots, mounted_says, was_stops}
 use Rattle.volume_turns.proofs.RunLaws.{told_fault}
 use Rattle.volume_turns.proofs.StaysLaws.{own_either}
 use Rattle.volume_turns.proofs.TurnLaws.{in_before_at, none_done, now_held}
@@ -385,11 +386,23 @@ module _ {S D : Type 0} (state : S → State) (has : S → Mounted → List Plac
     by_end (inl six) = inr (inl (unsaid six))
     by_end (inr (gives, all)) = by_fault fault u.why refl gives all
 
+    -- no root says what none said as it began
+    abbrev SaysLess : Moment → Type 0
+    SaysLess c = SaysNoMore (M.now a).image c.image
+
+    since_both : Since M a b
+    since_both t c le was = let later = u.moments.later in says.since honest t c (omega (arith, le, later)) (mounts t c le was)
+
+    less_run : LeavesOnly M.moment M.left_since a b SaysLess
+    less_run = then_on M.moment M.left_since a m b SaysLess (leaves_more M.moment M.left_since a m (SoundBefore l windows h f (M.now a)) SaysLess (λ c x. x.says) u.moments)
+        (leaves_more M.moment M.left_since m b (Utters (fault_text why) (M.now m)) SaysLess (λ c utters. says_no_more_then (M.now a).image (M.now m).image c.image u.exit.says (worn_says (open_damage (M.now m).windows) (M.now m).image c.image utters.image)) (says.any_moment honest))
+
     unmounted_run : LeavesBy request input rest l windows h f (M.left_since b) (stops M b) (M.moment a) (M.left_since a (M.now a).synced) (StopsOnly M a b) (IsHeld M b) (M.report a) (M.report b) (M.now a) (M.now b) status
     unmounted_run = inl (record {
       moments = then_on M.moment (stops M) a m b (LeftBefore l windows h f (M.now a)) (before_stops M l windows h f a m at_a at_m mounts held u.moments) line_stops;
       exit = line_exit (says.exit honest);
       held = held_behind M m b (fault_text why) (λ i. IsSound l windows h f i) at_m at_b (says.since honest) (says.any_moment honest) still_held worn;
+      says = was_stops M l a b at_a at_b since_both less_run;
       ends = by_end ended;
     })
 
