@@ -16,9 +16,9 @@ force_writes l s = (s == 8) || (s == 12) || nat_le 16 s && nat_lt s (home_a l 0)
 abbrev pub in_map : Layout → Sectors
 in_map l s = nat_le (map_start l) s && nat_lt s (map_start l + map_sectors l)
 
--- whether a close writes there: where a force writes, and the map
-abbrev pub close_writes : Layout → Sectors
-close_writes l s = force_writes l s || in_map l s
+-- whether the saving of a map writes there: the map, and the anchors behind it
+abbrev pub saving_writes : Layout → Sectors
+saving_writes l s = in_map l s || (s == 8) || (s == 12)
 
 -- whether a mount writes there: the roots beside what a force writes
 abbrev pub mount_writes : Layout → Sectors

@@ -1,5 +1,5 @@
 //! The anchor of a volume that is closed.
-ghost use Rattle.std.specs.Prelude.{◌≡◌, ◌<◌, ◌≤◌, ◌+◌, OnOk, OnErr};
+ghost use Rattle.std.specs.Prelude.{◌≡◌, ◌⊎◌, ◌<◌, ◌≤◌, ◌+◌, IfErr, OnOk, OnErr};
 ghost use Rattle.sector_disk.specs.Calls.{WritesDisk, device_in, failed_at};
 ghost use Rattle.sector_disk.specs.Image.{stand};
 ghost use Rattle.sector_disk.specs.Machine.{Holds, wrote};
@@ -18,6 +18,7 @@ fn close_copy<M: Machine>(m: &mut M, place: u32, anchor: &Anchor) -> Result<(), 
     requires first { 1 ≤ anchor.now.first }
     requires in_range { place < (M.report m.old).sectors }
     ensures writes { WritesDisk M.Machine (device_in failed_at result) (StandsInPart place (closed_bytes anchor.now) 1) m.old m.new }
+    ensures place { IfErr result (λ failed. failed.place ≡ place) }
     ensures counted { OnOk result (M.tells m.new → M.ledger m.new ≡ wrote (M.ledger m.old) 1) }
     ensures counted_err { OnErr result (M.tells m.new → M.ledger m.new ≡ M.ledger m.old) }
     ensures done { OnOk result (M.honest m.new → Holds (M.now m.old) (stand (M.now m.old).image place (closed_bytes anchor.now) 1) (M.now m.new)) }
@@ -32,6 +33,7 @@ pub(crate) fn close_both<M: Machine>(m: &mut M, anchor: &Anchor) -> Result<(), F
     requires first { 1 ≤ anchor.now.first }
     requires in_range { 12 < (M.report m.old).sectors }
     ensures writes { WritesDisk M.Machine (device_in failed_at result) (ClosesIn anchor.now) m.old m.new }
+    ensures place { IfErr result (λ failed. (failed.place ≡ 8) ⊎ (failed.place ≡ 12)) }
     ensures counted { OnOk result (M.tells m.new → M.ledger m.new ≡ wrote (M.ledger m.old) 2) }
     ensures least { M.tells m.new → (M.ledger m.old).written ≤ (M.ledger m.new).written }
     ensures most { M.tells m.new → (M.ledger m.new).written ≤ (M.ledger m.old).written + 2 }

@@ -1,9 +1,10 @@
 //! The writing of a whole map.
-ghost use Rattle.std.specs.Prelude.{◌≡◌, ◌<◌, ◌≤◌, ◌^◌, length, not, count_by, OnOk};
+ghost use Rattle.std.specs.Prelude.{◌≡◌, ◌<◌, ◌≤◌, ◌^◌, length, not, count_by, IfErr, IsTrue, OnOk};
 ghost use Rattle.volume_layout.specs.Layout.{map_sectors, IsPlanned};
 ghost use Rattle.sector_disk.specs.Calls.{WritesDisk, device_in, failed_at};
 ghost use Rattle.sector_disk.specs.Machine.{Holds, wrote};
 ghost use Rattle.sector_disk.specs.Written.{WroteMost};
+ghost use Rattle.fsd_sound.specs.Writes.{in_map};
 ghost use Rattle.saved_map.specs.Marks.{AreOf};
 ghost use Rattle.saved_map.specs.Saving.{SavesIn, saved, with_map};
 
@@ -35,6 +36,7 @@ pub fn save_map<M: Machine>(
     requires room { l.now.sectors ≤ (M.report m.old).sectors }
 
     ensures writes { WritesDisk M.Machine (device_in failed_at result) (SavesIn l.now (saved l.now map.now free_pages.now epoch versions)) m.old m.new }
+    ensures place { IfErr result (λ failed. IsTrue (in_map l.now failed.place)) }
     ensures counted { OnOk result (M.tells m.new → M.ledger m.new ≡ wrote (M.ledger m.old) (map_sectors l.now)) }
     ensures most { M.tells m.new → WroteMost (map_sectors l.now) (M.ledger m.old) (M.ledger m.new) }
     ensures done { OnOk result (M.honest m.new → Holds (M.now m.old)

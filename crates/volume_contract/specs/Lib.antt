@@ -3,6 +3,7 @@ pub mod Order
 pub mod Ends
 pub mod Mount
 pub mod Causes
+pub mod Closing
 pub mod Found
 pub mod Logged
 pub mod Growth

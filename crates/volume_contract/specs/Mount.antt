@@ -1,9 +1,12 @@
 -- What a mount finds, why it is refused, and what it leaves.
-use Rattle.std.specs.Prelude.{◌≡◌, ◌⊎◌, ⊤, ℕ, ◌+◌, ◌*◌, ◌<◌, ◌≤◌, Bool, ◌||◌, List, [], ◌∷◌, ◌++◌, take, Some, None, IfSome, IfOk, IfErr, Result, Ok, Err}
+use Rattle.std.specs.Prelude.{◌≡◌, ◌⊎◌, ⊤, ℕ, ◌+◌, ◌*◌, ◌<◌, ◌≤◌, Bool, ◌&&◌, ◌||◌, List, [], ◌∷◌, ◌++◌, take, Some, None, IfSome, IfOk, IfErr, Result, Ok, Err, nat_lt}
 use Rattle.volume_layout.specs.declared.layout.Layout.{Layout}
-use Rattle.volume_layout.specs.Layout.{home_a, IsPlanned}
+use Rattle.volume_layout.specs.Layout.{home_a, is_data, IsPlanned}
+use Rattle.run_table.specs.RunTable.{sectors_of}
+use Rattle.run_table.specs.Space.{contains}
 use Rattle.fsd_formats.specs.declared.anchor.Anchor.{Anchor}
 use Rattle.fsd_formats.specs.Anchors.{anchor_bytes}
+use Rattle.fsd_formats.specs.SavedMap.{is_set_in}
 use Rattle.sector_disk.specs.declared.machine.Machine.{Ghosts}
 use Rattle.sector_disk.specs.declared.sector.WeakRun.{WeakRun}
 use Rattle.sector_disk.specs.Image.{IsWorn, in_weak_run, open_damage}
@@ -17,6 +20,7 @@ use Rattle.fsd_sound.specs.Anchors.{anchor_of}
 use Rattle.fsd_sound.specs.Homes.{home_of, HasBothHomes}
 use Rattle.fsd_sound.specs.Laid.{StandsTwice}
 use Rattle.fsd_sound.specs.Mounted.{Mounted, IsFreshlyMounted, telling_of}
+use Rattle.fsd_sound.specs.Saved.{IsBelieved}
 use Rattle.fsd_sound.specs.Shown.{all_pages, each_of, shown}
 use Rattle.fsd_sound.specs.Sound.{EndIn, IsPrefixOf, IsSaid, IsSound, SaysNoMore, weak_of}
 use Rattle.fsd_sound.specs.declared.fault.MountFault.{MountFault}
@@ -126,6 +130,19 @@ pub record ShowsVolumePages (sectors : ℕ) (i : Image) (l : Layout) (pages : Li
   pub found : IsVolume sectors i l anchor
   pub shows : shown l i ≡ Some pages
 
+-- It has a map that is believed, and says of free sectors, of free pages and of versions what this says.
+pub record MountsSaved (sectors : ℕ) (i : Image) (s : State) : Type 0 where
+  pub anchor : Anchor
+  pub found : IsVolume sectors i s.layout anchor
+  pub believed : IsBelieved s.layout anchor.epoch i
+  pub free : (t : ℕ) → contains (sectors_of s.free) t ≡ (is_data s.layout t && is_set_in believed.sectors t)
+  pub spare : (page : ℕ) → contains s.free_pages page ≡ (nat_lt page s.layout.pages && is_set_in believed.sectors (home_a s.layout page))
+  pub versions : s.versions ≡ believed.counts.versions
+
+-- no map of the image is believed
+abbrev pub BelievesNone : ℕ → Image → Type 0
+BelievesNone sectors i = (l : Layout) (a : Anchor) → IsVolume sectors i l a → IsBelieved l a.epoch i → ⊥
+
 module _ {S : Type 0} (state : S → State) (has : S → Mounted → List Placed → Type 0) where
   -- The volume has the pages that the image shows in memory, and no records:
   -- they are a table, and none of them breaks it.
@@ -138,10 +155,11 @@ module _ {S : Type 0} (state : S → State) (has : S → Mounted → List Placed
     pub told : told_in mounted.pages ≡ Some (telling_of mounted.volume)
     pub whole : (page : ℕ) → Breaks (state volume).layout mounted.pages page → ⊥
 
-  -- it is mounted, or a page breaks, or one isn't shown
+  -- The map is believed, and no page is read. Or none is, and the volume is mounted as its pages are, or a page breaks, or one
+  -- isn't shown.
   abbrev pub MountsCalm : ℕ → Image → Result S MountFault → Type 0
-  MountsCalm sectors i (Ok volume) = MountsShown sectors i volume
-  MountsCalm sectors i (Err (Unsound s)) = (l : Layout) × (pages : List (List ℕ)) × ShowsVolumePages sectors i l pages × BreaksAt l pages s
+  MountsCalm sectors i (Ok volume) = MountsSaved sectors i (state volume) ⊎ (MountsShown sectors i volume × BelievesNone sectors i)
+  MountsCalm sectors i (Err (Unsound s)) = ((l : Layout) × (pages : List (List ℕ)) × ShowsVolumePages sectors i l pages × BreaksAt l pages s) × BelievesNone sectors i
   MountsCalm sectors i (Err fault) = LosesShown sectors i fault
 
 -- ---- the mount of a sound disk

@@ -178,10 +178,13 @@ pub record LogsRecord (s new : State) : Type 0 where
   pub table : length new.slots ≡ length s.slots
   pub slots : (page : ℕ) → page < length s.slots → slice_index_or new.slots page None ≡ (if contains s.dirty page then Some (record_slot s page) else slice_index_or s.slots page None)
 
--- a force has ended, with its log here: nothing waits for one, what did is free, and only what readers hold and
--- unfinished creations have waits on
+-- what waits on once a force has ended: the sectors that readers hold and that unfinished creations have
+abbrev pub still_waiting : State → List ℕ
+still_waiting s = filter (λ t. is_in (held_of s) t || contains s.unfinished t) s.waiting
+
+-- a force has ended, with its log here: nothing waits for one, and what did is free
 abbrev pub forced_state : State → (anchor : Anchor) → (head : Head) → (slots : List (Option Slot)) → State
-forced_state s anchor head slots = record s { anchor = anchor; head = head; slots = slots; dirty = []; free = s.freed; waiting = filter (λ t. is_in (held_of s) t || contains s.unfinished t) s.waiting; waits = false }
+forced_state s anchor head slots = record s { anchor = anchor; head = head; slots = slots; dirty = []; free = s.freed; waiting = still_waiting s; waits = false }
 
 -- A force has ended: it has numbered and logged one record, and none where no page waited.
 pub record IsForced (old new : State) : Type 0 where

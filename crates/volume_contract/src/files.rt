@@ -1,5 +1,5 @@
 //! A volume as its callers see it.
-ghost use Rattle.std.specs.Prelude.{◌≡◌, ◌≤◌, ◌<◌, ◌+◌, ◌==◌, ◌||◌, ℕ, List, Option, Contains, length, true, false, Some, IfOk, IsFalse, OnErr, OnOk, IsTrue, MatchResult, is_none, option_map, slice_index_or};
+ghost use Rattle.std.specs.Prelude.{◌≡◌, ◌≤◌, ◌<◌, ◌+◌, ◌==◌, ◌||◌, ℕ, List, Option, Contains, length, true, false, Some, IfOk, OnOk, IsTrue, MatchResult, is_none, option_map, slice_index_or};
 ghost use Rattle.std.specs.List.{list_any};
 ghost use Rattle.volume_layout.specs.declared.layout.Layout.{Layout as Plan};
 ghost use Rattle.sector_disk.specs.declared.sector.WeakRun.{WeakRun};
@@ -18,8 +18,9 @@ ghost use Rattle.fsd_files.specs.Kept.{data_sectors};
 ghost use Rattle.fsd_files.specs.Scrub.{leader_place, Sees, leader_count, slice_place};
 ghost use Rattle.fsd_sound.specs.Sound.{is_twin};
 ghost use Rattle.fsd_sound.specs.Mounted.{Mounted, image_at};
-ghost use Rattle.volume_contract.specs.State.{State, Known, Ages, WritesTold, WritesWithin, volume_of, Stands, HasCounted, IsForced as HasForced, HeldVersion, Leaves, put_writes, force_len, change_len, put_len, forces_first, forces_for_place, enters_again};
+ghost use Rattle.volume_contract.specs.State.{State, Known, Ages, WritesTold, WritesWithin, volume_of, Stands, HasCounted, IsForced as HasForced, HeldVersion, Leaves, put_writes, force_len, change_len, put_len, forces_first, forces_for_place};
 ghost use Rattle.fsd_sound.specs.Writes.{force_writes};
+ghost use Rattle.volume_contract.specs.Closing.{HasSaved, LeavesClosing, close_len, close_steps, may_close, saves};
 ghost use Rattle.volume_contract.specs.Order.{InOrder, IsDeviceRefusal, KeepsRefused, KeepsBy, put_steps, delete_steps, keep_steps, move_steps, entry_steps, next_steps, read_steps, reserve_steps, slices_steps, enter_steps, held_steps, force_steps, heal_steps, single_steps, upgrade_steps, grow_steps, is_root, with_three, load_steps};
 ghost use Rattle.volume_contract.specs.Pieces.{IsDraft, IsHeldVersion, KeepsEnter, KeepsReserve, GivesBack, HoldsAt, Unholds, FitsDraft, reserve_len, slice_count, in_slices, in_leader, slices_in, slices_if, read_at, ended, with_opened, refusal_told, EndsReserve, EndsSlices, EndsEnter, EndsHold, ReadsHeld};
 ghost use Rattle.volume_contract.specs.Ends.{Ends, EndsLoad, EndsPut, EndsForce, Closes, LooksUp, found_one, ReadsRange, kept_key, device_of};
@@ -80,7 +81,7 @@ pub trait Files<M: Machine>: Sized {
         ensures tells { M.honest m.new → MountTells state sectors (M.now m.old) (M.now m.new) result }
         ensures heals { M.honest m.new → MountHeals state sectors (M.now m.old) (M.now m.new) result }
 
-        // Where nothing wears, an image is mounted as it shows its table,
+        // Where nothing wears, an image is mounted by its saved map, if that is believed, else as it shows its table,
         // and refused for it exactly where a page breaks.
         ensures calm { M.honest m.new → IsCalm (M.now m.old).windows → IsCalm (M.now m.new).windows → MountsCalm state holds sectors (M.now m.old).image result }
 
@@ -383,14 +384,16 @@ pub trait Files<M: Machine>: Sized {
         ensures roots { OnOk result (M.honest m.new → RootsStand (state self.new) (M.now m.new)) }
         ensures done { M.honest m.new → (k : Known) → Stands state holds self.old k (M.now m.old) → EndsGrow state holds sectors k self.new (M.now m.new) result };
 
-    /// Ends the use of a volume by a force. All is on the disk for certain behind a `sync` of the machine.
+    /// Ends the use of a volume by a force, and saves the map of what is free, where nothing waits on and the table has as
+    /// many pages in use as the map has sectors: the next mount reads the map then, and walks no table. All is on the disk
+    /// for certain behind a `sync` of the machine. It takes no memory.
     fn close(self, m: &mut M) -> Result<(), Refusal>
         requires { (state self).layout.sectors ≤ (M.report m.old).sectors }
-        ensures order { InOrder (force_steps (state self)) m.old m.new result }
-        ensures disk { WritesDisk M.Machine (device_in device_of result) (Leaves state holds self (force_writes (state self).layout)) m.old m.new }
-        ensures writes { WritesWithin M.Machine (force_writes (state self).layout) (force_len (state self)) m.old m.new result }
+        ensures order { InOrder (close_steps (state self)) m.old m.new result }
+        ensures disk { WritesDisk M.Machine (device_in device_of result) (LeavesClosing state holds self) m.old m.new }
+        ensures writes { WritesWithin M.Machine (may_close (state self)) (close_len (state self)) m.old m.new result }
         ensures causes { Causes M.Machine (resident self) (state self) (state self) m.old m.new result }
-        ensures unwritten { OnErr result (M.tells m.new → IsFalse (enters_again (state self)) → (M.ledger m.new).written ≡ (M.ledger m.old).written) }
+        ensures saves { IsTrue (saves (state self)) → OnOk result (M.honest m.new → HasSaved (state self) (M.now m.new)) }
         ensures done { M.honest m.new → (k : Known) → Stands state holds self k (M.now m.old) → MatchResult result (λ x. Closes k (M.now m.new).image) (λ why. IsDeviceRefusal why) };
 
     /// A volume that stands over a disk stands over it as it is worn by any call of the machine.

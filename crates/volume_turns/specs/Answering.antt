@@ -2,22 +2,23 @@
 -- one reply, or the line of the fault that has ended it.
 use Rattle.std.specs.Prelude.{◌≡◌, ◌⊎◌, ⊤, ℕ, List, [], ◌++◌, Result, Ok, Err, IfErr, IfOk, IsTrue}
 use Rattle.sector_disk.specs.Machine.{Moment}
-use Rattle.fsd_files.specs.Disk.{Touches, nowhere}
+use Rattle.fsd_files.specs.Disk.{Touches}
 use Rattle.fsd_files.specs.declared.reply.Reply.{Reply}
-use Rattle.fsd_sound.specs.Writes.{MountKeeps, force_writes}
+use Rattle.fsd_sound.specs.Writes.{MountKeeps}
 use Rattle.fsd_texts.specs.declared.command.Command.{Command}
 use Rattle.fsd_texts.specs.declared.fault.Fault.{Fault}
 use Rattle.fsd_texts.specs.declared.fault.Fault.TheVariants as Ends
 use Rattle.fsd_texts.specs.Text.{fault_text}
 use Rattle.fsd_runs.specs.Commands.{reply_alone, reply_status}
 use Rattle.fsd_runs.specs.Errands.{fault_status}
+use Rattle.volume_contract.specs.Closing.{may_close}
 use Rattle.volume_contract.specs.State.{State, is_worn}
 use Rattle.scrub.specs.Telling.{AreOfPage}
 use Rattle.volume_turns.specs.declared.turns.Halt.{Halt}
 use Rattle.volume_turns.specs.declared.turns.Halt.TheVariants.{Fault as Stopped, Output}
 use Rattle.volume_turns.specs.Numbers.{GoesUp}
 use Rattle.volume_turns.specs.Steps.{IsToldOn}
-use Rattle.volume_turns.specs.Commands.{KeepsState, MayLose, MayReply, TouchesBy, WritesBehind}
+use Rattle.volume_turns.specs.Commands.{KeepsState, MayLose, MayReply, TouchesAlone, TouchesBy, WritesBehind}
 use Rattle.volume_turns.specs.Turns.{KeepsSaid}
 
 -- ---- one command, step by step
@@ -42,9 +43,7 @@ SaysBy text old new (Err Output) = ⊤
 pub record ClosesBy {T : Type 0} (s : State) (text : List ℕ) (old new : Moment) (result : Result T Halt) : Type 0 where
   pub windows : new.windows ≡ old.windows
   pub says : SaysBy text old new result
-  pub rest : Touches (force_writes s.layout) old new
-  -- where no page waits nothing is written
-  pub still : s.dirty ≡ [] → Touches nowhere old new
+  pub rest : Touches (may_close s) old new
   -- nor is it told as worn out
   pub unworn : result ≡ Err (Stopped Ends.WornOut) → ⊥
   pub told : (why : Fault) → result ≡ Err (Stopped why) → IsToldOn AreOfPage s.layout new.image why
@@ -62,7 +61,7 @@ pub record AnswersAlone (command : Command) (s : State) (old new : Moment) (resu
   pub windows : new.windows ≡ old.windows
   pub quiet : KeepsSaid old new result
   pub replies : s.dirty ≡ [] → IfOk result (SaysReply command old new)
-  pub rest : s.dirty ≡ [] → TouchesBy command s old new
+  pub rest : s.dirty ≡ [] → TouchesAlone command s old new
   pub worn : result ≡ Err (Stopped Ends.WornOut) → IsTrue (is_worn s)
   pub told : (why : Fault) → result ≡ Err (Stopped why) → IsToldOn (MayLose command) s.layout new.image why
 
@@ -86,7 +85,7 @@ SaysOne command old new status = SaysReply command old new status ⊎ SaysNoRepl
 pub record EndsOne (command : Command) (s : State) (old new : Moment) (status : ℕ) : Type 0 where
   pub windows : new.windows ≡ old.windows
   pub says : SaysOne command old new status
-  pub rest : TouchesBy command s old new
+  pub rest : TouchesAlone command s old new
 
 -- ---- from the mount on
 

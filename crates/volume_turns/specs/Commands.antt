@@ -13,7 +13,7 @@ use Rattle.fsd_files.specs.Answers.{keep_given, least_pages, size_fault}
 use Rattle.fsd_files.specs.Disk.{Image, Sectors, Touches, TouchesLonger, nowhere}
 use Rattle.fsd_files.specs.declared.reply.Reply.{Reply}
 use Rattle.fsd_files.specs.declared.reply.Reply.TheVariants as Said
-use Rattle.fsd_sound.specs.Writes.{force_writes}
+use Rattle.fsd_sound.specs.Writes.{force_writes, saving_writes}
 use Rattle.fsd_texts.specs.declared.command.Command.{Command}
 use Rattle.fsd_texts.specs.declared.command.Command.TheVariants as Word
 use Rattle.fsd_texts.specs.declared.script_command.ScriptCommand.{ScriptCommand}
@@ -132,10 +132,17 @@ may_write (Word.Grow sectors) s = is_root
 may_write command s = nowhere
 
 -- it has written there alone; a growth may also have given the image more sectors
-abbrev pub TouchesBy : Command → State → (old new : Moment) → Type 0
-TouchesBy (Word.Grow sectors) s old new = TouchesLonger sectors (may_write (Word.Grow sectors) s) old new
+abbrev pub TouchesIn : Command → (may : Sectors) → (old new : Moment) → Type 0
+TouchesIn (Word.Grow sectors) may old new = TouchesLonger sectors may old new
 -- by default there are as many as before
-TouchesBy command s old new = Touches (may_write command s) old new
+TouchesIn command may old new = Touches may old new
+
+abbrev pub TouchesBy : Command → State → (old new : Moment) → Type 0
+TouchesBy command s old new = TouchesIn command (may_write command s) old new
+
+-- and by itself also where a map is saved
+abbrev pub TouchesAlone : Command → State → (old new : Moment) → Type 0
+TouchesAlone command s old new = TouchesIn command (λ t. may_write command s t || saving_writes s.layout t) old new
 
 -- a command that only reads leaves the volume's state, and so does a scrub where no page waits; behind an upgrade or a
 -- growth the same pages wait
@@ -153,26 +160,26 @@ KeepsState (Word.Grow sectors) s t = t.dirty ≡ s.dirty
 -- by default it stays
 KeepsState command s t = t ≡ s
 
--- nothing is written behind the mount, or only where a force writes
-abbrev pub WritesForce : (sectors : ℕ) → (old mounted new : Moment) → Type 0
-WritesForce sectors old mounted new = Ages mounted new ⊎ ((volume : HasVolume sectors old) × Touches (force_writes volume.layout) mounted new)
+-- nothing is written behind the mount, or only there, and where a map is saved
+abbrev pub WritesIn : Command → (may : Layout → Sectors) → (sectors : ℕ) → (old mounted new : Moment) → Type 0
+WritesIn command may sectors old mounted new = Ages mounted new ⊎ ((volume : HasVolume sectors old) × TouchesIn command (λ t. may volume.layout t || saving_writes volume.layout t) mounted new)
 
--- What is written behind the mount: nothing by a command that only reads; by an upgrade only the roots, and by a growth
--- these, and the image may get more sectors; by another that makes no version, only where a force writes, and by a scrub
--- also roots and in the data area.
+-- What is written behind the mount beside a map: nothing by a command that only reads; by an upgrade only the roots, and by
+-- a growth these, and the image may get more sectors; by another that makes no version, only where a force writes, and by a
+-- scrub also roots and in the data area.
 abbrev pub WritesBehind : Command → (sectors : ℕ) → (old mounted new : Moment) → Type 0
 WritesBehind (Word.Put name bytes keep) sectors old mounted new = ⊤
-WritesBehind (Word.Delete key) sectors old mounted new = WritesForce sectors old mounted new
-WritesBehind (Word.Keep name keep) sectors old mounted new = WritesForce sectors old mounted new
-WritesBehind (Word.Move key name) sectors old mounted new = WritesForce sectors old mounted new
+WritesBehind (Word.Delete key) sectors old mounted new = WritesIn (Word.Delete key) force_writes sectors old mounted new
+WritesBehind (Word.Keep name keep) sectors old mounted new = WritesIn (Word.Keep name keep) force_writes sectors old mounted new
+WritesBehind (Word.Move key name) sectors old mounted new = WritesIn (Word.Move key name) force_writes sectors old mounted new
 WritesBehind (Word.Load key keep bytes) sectors old mounted new = ⊤
-WritesBehind Word.Force sectors old mounted new = WritesForce sectors old mounted new
-WritesBehind Word.Tick sectors old mounted new = WritesForce sectors old mounted new
-WritesBehind Word.Scrub sectors old mounted new = Ages mounted new ⊎ ((volume : HasVolume sectors old) × Touches (scrub_writes volume.layout) mounted new)
-WritesBehind Word.Upgrade sectors old mounted new = Touches is_root mounted new
-WritesBehind (Word.Grow n) sectors old mounted new = TouchesLonger n is_root mounted new
+WritesBehind Word.Force sectors old mounted new = WritesIn Word.Force force_writes sectors old mounted new
+WritesBehind Word.Tick sectors old mounted new = WritesIn Word.Tick force_writes sectors old mounted new
+WritesBehind Word.Scrub sectors old mounted new = WritesIn Word.Scrub scrub_writes sectors old mounted new
+WritesBehind Word.Upgrade sectors old mounted new = WritesIn Word.Upgrade (λ l. is_root) sectors old mounted new
+WritesBehind (Word.Grow n) sectors old mounted new = WritesIn (Word.Grow n) (λ l. is_root) sectors old mounted new
 -- by default nothing
-WritesBehind command sectors old mounted new = Ages mounted new
+WritesBehind command sectors old mounted new = WritesIn command (λ l. nowhere) sectors old mounted new
 
 -- how many sectors a command writes at most over a volume of this state, but for the force behind it, and for what a
 -- scrub heals

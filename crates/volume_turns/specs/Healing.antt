@@ -2,6 +2,7 @@
 use Rattle.std.specs.Prelude.{◌≡◌, ◌≤◌, ◌==◌, ⊤, ℕ, ◌+◌, ◌*◌, Bool, List, [], ◌∷◌, ◌++◌, Some, IsTrue}
 use Rattle.std.specs.List.{AllByRecursion, list_any}
 use Rattle.volume_layout.specs.declared.layout.Layout.{Layout}
+use Rattle.volume_layout.specs.Layout.{map_sectors}
 use Rattle.fsd_bytes.specs.declared.key.Key.{Key}
 use Rattle.fsd_log.specs.Scan.{Placed}
 use Rattle.fsd_table.specs.Table.{Telling}
@@ -51,12 +52,18 @@ pub record HealsAll (Sound : Type 0) (Written : ℕ → Type 0) (l : Layout) (be
   pub twins : TwinsStand l new
   pub leaders : Sound → HealsLeaders l healed old new
 
+-- Beside at most so many sectors, those healed are counted as written, but no more are told than a number can tell.
+pub record WritesBeside (most : ℕ) (old new : Ledger) (healed : ℕ) : Type 0 where
+  pub others : ℕ
+  pub few : others ≤ most
+  pub written : WritesHealed others old new healed
+
 -- ---- over a volume that was just mounted
 
 module _ {D S : Type 0} (M : Ghosts D) (state : S → State) (has : S → Mounted → List Placed → Type 0) where
   -- the disk is sound where the volume stands on it
   abbrev pub HealsAlone : (v : S) → (a b : D) → Type 0
-  HealsAlone v a b = HealsAll ((k : Known) × Stands state has v k (M.now a)) (λ healed. M.tells b → WritesHealed 0 (M.ledger a) (M.ledger b) healed) (state v).layout (M.now a).said (M.now a) (M.now b)
+  HealsAlone v a b = HealsAll ((k : Known) × Stands state has v k (M.now a)) (λ healed. M.tells b → WritesBeside (map_sectors (state v).layout + 2) (M.ledger a) (M.ledger b) healed) (state v).layout (M.now a).said (M.now a) (M.now b)
 
   -- One command, to its last line; and what it has healed, where it is a scrub that is answered.
   pub record EndsHealed (command : Command) (v : S) (a b : D) (status : ℕ) : Type 0 where
@@ -65,11 +72,9 @@ module _ {D S : Type 0} (M : Ghosts D) (state : S → State) (has : S → Mounte
 
 -- ---- from the mount on
 
--- Beside what a mount writes at most, so many sectors are counted as written, but no more are told than a number can tell.
-pub record WritesMounting (l : Layout) (old new : Ledger) (healed : ℕ) : Type 0 where
-  pub mounting : ℕ
-  pub most : mounting ≤ 2 * l.pages + 101
-  pub written : WritesHealed mounting old new healed
+-- beside what a mount writes at most, and the map
+abbrev pub WritesMounting : Layout → (old new : Ledger) → (healed : ℕ) → Type 0
+WritesMounting l = WritesBeside (2 * l.pages + 101 + (map_sectors l + 2))
 
 -- By the root that was seen, and as it stood at a moment of the run at which the window was open that is open at its end.
 pub record HealsMounted (Past : Moment → Type 0) (Sound : Type 0) (Written : Layout → ℕ → Type 0) (sectors : ℕ) (before : List ℕ) (old new : Moment) : Type 0 where

@@ -1,10 +1,11 @@
 //! One command by itself over a mounted volume, to its reply.
-ghost use Rattle.std.specs.Prelude.{◌≡◌, ◌≤◌, [], None, Err, IfErr, IfOk, IsTrue, false, ℕ};
+ghost use Rattle.std.specs.Prelude.{◌≡◌, ◌≤◌, ◌+◌, [], None, Err, IfErr, IfOk, OnOk, IsTrue, false, ℕ};
 ghost use Rattle.fsd_runs.specs.Commands.{reply_alone, reply_status};
 ghost use Rattle.volume_turns.specs.Answering.{AnswersAlone, ClosesBy};
 ghost use Rattle.volume_turns.specs.Once.{ClosesAndSays, IsAlone, close_fault, end_by_mount, unit_of};
 ghost use Rattle.volume_turns.specs.Commands.{IsStatusFrom};
 ghost use Rattle.volume_turns.specs.Healing.{HealsAlone, IfScrub};
+ghost use Rattle.volume_contract.specs.Closing.{saving_len};
 ghost use Rattle.volume_contract.specs.State.{Known, Stands, is_worn, none_open, volume_of, forced_of};
 ghost use Rattle.volume_contract.specs.Upgrade.{is_fresh};
 ghost use Rattle.volume_turns.specs.Steps.{is_alone, may_grow};
@@ -46,7 +47,7 @@ pub(crate) fn close_and_say<M: Machine, V: Files<M>>(
     ensures speaks { Speaks M.Machine 1 m.old m.new result }
     ensures closing { M.honest m.new → ClosesBy (V.state v) text.now (M.now m.old) (M.now m.new) result }
     ensures wants { (V.state v).down ≡ None → IfErr result WantsNone }
-    ensures written { (V.state v).dirty ≡ [] → M.tells m.new → (M.ledger m.new).written ≡ (M.ledger m.old).written }
+    ensures written { (V.state v).dirty ≡ [] → OnOk result (M.tells m.new → (M.ledger m.new).written ≡ (M.ledger m.old).written + saving_len (V.state v)) }
     ensures closes { M.honest m.new → (k : Known) (f : ℕ) → Stands V.state V.holds v k (M.now m.old) → OnDisk M.Machine k f m.old → ClosesAndSays M.Machine k f text.now m.old m.new result }
 {
     match v.close(m) {
@@ -80,7 +81,7 @@ pub(crate) fn close_as<M: Machine, V: Files<M> + Drop, T: Says>(
     ensures undone { result ≡ Err (Stopped Ends.Memory) → m.new ≡ m.old }
     ensures status { IfOk result (λ status. status ≡ reply_status answer.now) }
     ensures speaks { Speaks M.Machine 1 m.old m.new result }
-    ensures written { (V.state v).dirty ≡ [] → M.tells m.new → (M.ledger m.new).written ≡ (M.ledger m.old).written }
+    ensures written { (V.state v).dirty ≡ [] → OnOk result (M.tells m.new → (M.ledger m.new).written ≡ (M.ledger m.old).written + saving_len (V.state v)) }
     ensures closing { M.honest m.new → ClosesBy (V.state v) (T.errand.says answer.now) (M.now m.old) (M.now m.new) (unit_of result) }
     ensures closes { M.honest m.new → (k : Known) (f : ℕ) → Stands V.state V.holds v k (M.now m.old) → OnDisk M.Machine k f m.old → ClosesAndSays M.Machine k f (T.errand.says answer.now) m.old m.new (unit_of result) }
 {
