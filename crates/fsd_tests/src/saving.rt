@@ -91,7 +91,7 @@ const BELIEVED: [Image<'static>; 7] = [
         &[("cfs put v a", b"", 0, "made a!1 1\n")],
         (&[784, 852], NO_PAGE),
         &[(STAT, b"", 3, "fault unsound 784\n")],
-        &[(920, b"\0\0\0\0")],
+        &[(920, b"")],
     ),
 ];
 
@@ -205,7 +205,7 @@ fn an_older_anchor_is_taken_with_its_map(rt: HostRuntime) -> Result<(), Fail> {
     Ok(())
 }
 
-// A put is done or not wherever a stop comes; the third value is of runs that have said their reply.
+// The first count of sectors behind which a stop leaves a put neither done nor undone, or undone where it was said.
 fn wrong_stop(alloc: Global, format: &str) -> Result<Option<u64>, AllocError> {
     let image = formatted(alloc, format)?;
     for after in 0..40 {
