@@ -44,12 +44,12 @@ read_comes s why (inr later) = inr (later.0, inr (tt, later.1))
 -- which is refused neither for want of memory nor for its page
 pub read_told : (s : State) (why : Refusal) (l : Layout) (i : Image) → s.down ≡ None → Comes (held_steps s) why → TellsOn l i why
 read_told s why l i up (inl here) = absurd (let down = ap (λ (d : Option ℕ). d) up in cc (here, up))
-read_told s why l i up (inr (passes, inl data)) = by why data
+read_told s why l i up (inr (passes, inl cause)) = by why cause
   where
     by : (why : Refusal) → IsData why → TellsOn l i why
-    by (Why.Device t) data = tt
-    by (Why.Damaged t) data = tt
-    by why data = absurd data
+    by (Why.Device t) cause = tt
+    by (Why.Damaged t) cause = tt
+    by why cause = absurd cause
 read_told s why l i up (inr (passes, inr later)) = absurd later.1
 
 -- and tells no data sector
