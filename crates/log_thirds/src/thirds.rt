@@ -65,7 +65,7 @@ impl Model for Log {
 
 impl Log {
     ghost use Rattle.std.specs.List.{list_any};
-    ghost use Rattle.std.specs.Prelude.{◌≡◌, ◌≤◌, ◌<◌, ◌↔◌, ◌+◌, ◌-◌, ◌*◌, ◌^◌, [], List, is_some, length, Some, None, Ok, Err, true, false, replicate, slice_index_or, IsTrue, IfErr, IfOk, IfSome, IfNone, OnOk, OnErr};
+    ghost use Rattle.std.specs.Prelude.{◌≡◌, ◌⊎◌, ◌≤◌, ◌<◌, ◌↔◌, ◌+◌, ◌-◌, ◌*◌, ◌^◌, [], List, is_some, length, Some, None, Ok, Err, true, false, replicate, slice_index_or, IsTrue, IfErr, IfOk, IfSome, IfNone, OnOk, OnErr};
     ghost use Rattle.sector_disk.specs.Calls.{OnlyReads, WritesDisk, device_in, failed_at, load_failed_at};
     ghost use Rattle.sector_disk.specs.declared.sector.Sector.{Sector};
     ghost use Rattle.sector_disk.specs.Image.{stand, IsWorn, open_damage};
