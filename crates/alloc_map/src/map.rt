@@ -26,6 +26,7 @@ impl Model for Map {
 
 impl Map {
     ghost use Rattle.sector_set.specs.Area.{area, without_sectors, together, AreIn, AreOut};
+    ghost use Rattle.sector_set.specs.SectorSet.{IsFirst};
     ghost use Rattle.alloc_map.specs.NoPlace.{choice};
 
     /// The sectors of `from..to` that are in none of the runs. It takes a bit for each sector below `to`.
@@ -51,6 +52,16 @@ impl Map {
         ensures { result ≡ contains self.now.sectors s }
     {
         self.free.contains(s)
+    }
+
+    /// The first sector from `at` on below `end` that is free, or that is not where `free` is false; else `end`.
+    pub fn first(&self, at: u32, end: u32, free: bool) -> u32
+        requires from { self.now.from ≤ at }
+        requires order { at ≤ end }
+        requires to { end ≤ self.now.to }
+        ensures { IsFirst end (contains self.now.sectors) at free result }
+    {
+        self.free.first(at, end, free)
     }
 
     /// Whether the sectors of runs are free, each named once.

@@ -1,6 +1,7 @@
 //! A sector of the map as it is saved.
-ghost use Rattle.std.specs.Prelude.{◌≡◌, ◌+◌, ◌*◌, ◌<◌, ◌^◌, if◌then◌else◌};
+ghost use Rattle.std.specs.Prelude.{◌≡◌, ◌+◌, ◌*◌, ◌<◌, ◌≤◌, ◌^◌, IfSome, if◌then◌else◌};
 ghost use Rattle.volume_layout.specs.Layout.{map_bits};
+ghost use Rattle.run_table.specs.Space.{contains};
 ghost use Rattle.fsd_bytes.specs.Bytes.{sector};
 ghost use Rattle.fsd_formats.specs.MapSector.{bits_value, map_head, map_sector};
 ghost use Rattle.saved_map.specs.Marks.{is_marked, AreOf};
@@ -38,8 +39,8 @@ fn bit_at(l: &Layout, map: &Map, free_pages: &[bool], s: u32) -> u8
     }
 }
 
-// Eight bits from a sector on, the first on the left.
-fn byte_at(l: &Layout, map: &Map, free_pages: &[bool], s: u32) -> u8
+// Eight bits from a sector on, one by one, the first on the left.
+fn mixed_byte(l: &Layout, map: &Map, free_pages: &[bool], s: u32) -> u8
     requires of { AreOf l.now map.now free_pages.now }
     requires room { s + 8 < 2 ^ 32 }
     ensures { result ≡ bits_value (is_marked l.now map.now.sectors free_pages.now) s 8 }
@@ -49,6 +50,37 @@ fn byte_at(l: &Layout, map: &Map, free_pages: &[bool], s: u32) -> u8
         byte = 2 * byte + bit_at(l, map, free_pages, s + i);
     }
     byte
+}
+
+// The bits of eight sectors of the data area, where all of these are free or none is.
+fn even_byte(map: &Map, s: u32) -> Option<u8>
+    requires from { map.now.from ≤ s }
+    requires to { s + 8 ≤ map.now.to }
+    requires room { s + 8 < 2 ^ 32 }
+    ensures { IfSome result (λ byte. byte ≡ bits_value (contains map.now.sectors) s 8) }
+{
+    let stop = s + 8;
+    if map.first(s, stop, false) == stop {
+        Some(255)
+    } else if map.first(s, stop, true) == stop {
+        Some(0)
+    } else {
+        None
+    }
+}
+
+// Eight bits from a sector on, the first on the left.
+fn byte_at(l: &Layout, map: &Map, free_pages: &[bool], s: u32) -> u8
+    requires of { AreOf l.now map.now free_pages.now }
+    requires room { s + 8 < 2 ^ 32 }
+    ensures { result ≡ bits_value (is_marked l.now map.now.sectors free_pages.now) s 8 }
+{
+    if l.data_start() <= s && s + 8 <= l.sectors() {
+        if let Some(byte) = even_byte(map, s) {
+            return byte;
+        }
+    }
+    mixed_byte(l, map, free_pages, s)
 }
 
 /// The map's sector with this head: a bit for each of its sectors, set where that is free, or the first home of a free

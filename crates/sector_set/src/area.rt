@@ -31,6 +31,7 @@ impl Model for SectorArea {
 
 impl SectorArea {
     ghost use Rattle.sector_set.specs.Area.{area, without_sectors, together, AreIn, AreOut, IsOwn, left_of, IsFirstOf};
+    ghost use Rattle.sector_set.specs.SectorSet.{IsFirst};
 
     /// The sectors of `from..to` that are in none of the runs. It takes a bit for each sector below `to`.
     pub fn without_runs(
@@ -118,6 +119,16 @@ impl SectorArea {
         ensures fits { self.now.to < 2 ^ 32 }
     {
         self.set.next_run(at)
+    }
+
+    /// The first sector from `at` on below `end` that is in it, or that is not where `wanted` is false; else `end`.
+    pub fn first(&self, at: u32, end: u32, wanted: bool) -> u32
+        requires from { self.now.from ≤ at }
+        requires order { at ≤ end }
+        requires to { end ≤ self.now.to }
+        ensures { IsFirst end (contains self.now.sectors) at wanted result }
+    {
+        self.set.first(at, end, wanted)
     }
 
     /// Takes sectors out.

@@ -2,7 +2,7 @@ use Rattle.std.proofs.Common.{◌≡◌, ◌<◌, ◌+◌, ℕ, sym, ap, subst, 
 use Rattle.fsd_formats.specs.MapSector.{bits_value}
 use Rattle.saved_map.specs.Marks.{is_marked}
 use Rattle.saved_map.proofs.MarkLaws.{bit_small, low_value}
-use Rattle.saved_map.proofs.saving.byte_at.Goals as goal
+use Rattle.saved_map.proofs.saving.mixed_byte.Goals as goal
 
 pub overflow_mul-byte : goal.overflow_mul-byte
 overflow_mul-byte c =
