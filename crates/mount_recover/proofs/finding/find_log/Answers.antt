@@ -1,4 +1,4 @@
-use Rattle.std.proofs.Common.{◌≡◌, Err, Some, ◌<◌, ◌≤◌, Ok, length, sym, ◌∙◌, arith}
+use Rattle.std.proofs.Common.{◌≡◌, Err, Some, ◌<◌, ◌≤◌, length, sym, ◌∙◌, arith}
 use Rattle.volume_layout.specs.Layout.{IsPlanned}
 use Rattle.volume_layout.proofs.RootLaws.{planned_bounds}
 use Rattle.sector_disk.proofs.CallLaws.{reads_then, reads_told}
