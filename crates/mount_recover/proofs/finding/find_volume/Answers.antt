@@ -1,54 +1,54 @@
-use Rattle.std.proofs.Common.{◌≡◌, Err, Some, ◌<◌, ◌≤◌, Ok, length, sym, ◌∙◌, arith}
-use Rattle.volume_layout.specs.Layout.{IsPlanned}
-use Rattle.volume_layout.proofs.RootLaws.{planned_bounds}
+use Rattle.std.proofs.Common.{ℕ, Ok, sym, subst, arith}
+use Rattle.std.specs.Prelude.{IfSome}
+use Rattle.std.proofs.lemmas.Result.{err_from_is_err_and}
 use Rattle.sector_disk.proofs.CallLaws.{reads_then, reads_told}
-use Rattle.fsd_files.specs.Disk.{first_whole}
-use Rattle.mount_recover.proofs.FaultLaws.{scan_sound, scan_told}
-use Rattle.mount_recover.proofs.RootLaws.{taken_before, taken_so}
-use Rattle.mount_recover.proofs.SeenLaws.{found_so, none_so, not_found_so, seen_now}
+use Rattle.fsd_sound.specs.Saved.{IsBelieved}
+use Rattle.saved_map.specs.Reading.{Believes}
+use Rattle.mount_recover.proofs.FoundMapLaws.{believed_before, map_refused, map_sound, map_told, none_seen, still_found}
 use Rattle.mount_recover.proofs.finding.find_volume.Goals as goal
 
-pub returns-in-Err-scan-clause-sound : goal.returns-in-Err-scan-clause-sound
-returns-in-Err-scan-clause-sound g c = scan_sound c.in-Err-scan.fault c.mount_fault.result c.mount_fault.ensures
+pub read_saved-requires-clause-sectors : goal.read_saved-requires-clause-sectors
+read_saved-requires-clause-sectors g c = omega (arith, c.in_ok-layout.ensures.found.room, c.requires, c.find_log.ensures.reads.uses.sectors)
 
-pub returns-in-Ok-scan-clause-reads : goal.returns-in-Ok-scan-clause-reads
-returns-in-Ok-scan-clause-reads g c = reads_then c.in-Ok.ensures.reads c.in-Ok-scan.ensures.reads
+pub returns-in_err-layout : goal.returns-in_err-layout
+returns-in_err-layout g c =
+    let failed = c.in_err-layout.ensures in
+    let p = err_from_is_err_and c.from_residual.result c.from_residual.ensures.1 in
+    rw (p.1, p.2) (record { reads = failed.reads; sound = failed.sound; found = tt; root = tt; seen = tt; refused = failed.refused; believes = tt; none = tt })
 
-pub returns-in-Err-scan-clause-reads : goal.returns-in-Err-scan-clause-reads
-returns-in-Err-scan-clause-reads g c = reads_told (scan_told c.in-Err-scan.fault c.mount_fault.result c.mount_fault.ensures) (reads_then c.in-Ok.ensures.reads c.in-Err-scan.ensures.reads)
-
-pub returns-in-Ok-scan-clause-root : goal.returns-in-Ok-scan-clause-root
-returns-in-Ok-scan-clause-root g c h =
+pub returns-in-Ok : goal.returns-in-Ok
+returns-in-Ok g c =
     let M = g.M.Machine in
-    let roots = c.in-Ok.roots in
-    taken_before c.args.sectors roots.first roots.second (M.now c.args.m.now) (M.now c.find_roots.new.m) (c.in-Ok.ensures.seen (c.scan.ensures.reads.trust.honest h)) c.in-Some.layout (sym c.taken.ensures ∙ c.in-Some.is)
+    let start = c.args.m.now in let mid = c.find_log.new.m in let end = c.read_saved.new.m in
+    let old = M.now start in let new = M.now end in
+    let found = c.in_ok-layout.field-0 in let was = c.in_ok-layout.ensures in let read = c.in-Ok.ensures in
+    let back = read.reads.trust.honest in
+    let reads = reads_then was.reads read.reads in
+    record {
+      reads = reads;
+      sound = tt;
+      found = was.found;
+      root = λ h. was.root (back h);
+      seen = λ h. still_found c.args.sectors found.layout found.log found.longest old (M.now mid) new (was.reads.worn (back h)) (read.reads.worn h) (was.seen (back h));
+      refused = tt;
+      believes = subst (λ (e : ℕ). IfSome c.in-Ok.saved (Believes M found.layout e start end)) c.epoch.ensures (believed_before M found.layout c.epoch.result start mid end was.reads back c.in-Ok.saved read.believes);
+      none = λ none h. none_seen found.layout found.log.anchor.epoch old new (reads.worn h)
+          (λ believed. read.none (λ i. Ok (none i)) h (subst (λ (e : ℕ). IsBelieved found.layout e new.image) (sym c.epoch.ensures) believed));
+    }
 
-pub returns-in-Ok-scan-clause-seen : goal.returns-in-Ok-scan-clause-seen
-returns-in-Ok-scan-clause-seen g c h =
+pub returns-in-Err : goal.returns-in-Err
+returns-in-Err g c =
     let M = g.M.Machine in
-    let roots = c.in-Ok.roots in
-    let old = M.now c.args.m.now in let mid = M.now c.find_roots.new.m in
-    let h1 = c.scan.ensures.reads.trust.honest h in
-    let wears = c.find_roots.ensures.reads.worn h1 in
-    let seen = c.in-Ok.ensures.seen h1 in
-    found_so c.args.sectors roots.first roots.second old mid wears seen c.in-Some.layout (sym c.taken.ensures ∙ c.in-Some.is) c.longest.result c.longest.ensures.first c.longest.ensures.second
-    c.in-Ok-scan.log (M.now c.scan.new.m) c.in-Ok-scan.ensures.found.layout (c.in-Ok-scan.ensures.found.seen seen.seen h (seen_now c.args.sectors roots.first roots.second old mid wears seen c.in-Some.layout (sym c.taken.ensures ∙ c.in-Some.is)))
-
-pub returns-in-Err-scan-clause-refused : goal.returns-in-Err-scan-clause-refused
-returns-in-Err-scan-clause-refused g c h =
-    let M = g.M.Machine in
-    let roots = c.in-Ok.roots in
-    let old = M.now c.args.m.now in let mid = M.now c.find_roots.new.m in
-    let h1 = c.scan.ensures.reads.trust.honest h in
-    let sized = g.met.M.Machine.sized c.find_roots.new.m h1 in
-    let taken : first_whole roots.first roots.second ≡ Some c.in-Some.layout = sym c.taken.ensures ∙ c.in-Some.is in
-    let bounds = planned_bounds c.in-Some.layout (taken_so (λ k. IsPlanned k) roots.first roots.second c.in-Some.layout taken c.in-Ok.ensures.planned.0 c.in-Ok.ensures.planned.1) in
-    let fits = taken_so (λ k. k.sectors ≤ c.args.sectors) roots.first roots.second c.in-Some.layout taken c.in-Ok.ensures.fits.0 c.in-Ok.ensures.fits.1 in
-    let room : 12 < length mid.image = omega (arith, sized, bounds.third_least, bounds.sectors_least, fits, c.requires, c.find_roots.ensures.reads.uses.sectors) in
-    not_found_so c.args.sectors roots.first roots.second old mid (c.find_roots.ensures.reads.worn h1) (c.in-Ok.ensures.seen h1) c.in-Some.layout taken c.in-Err-scan.fault c.mount_fault.result room c.mount_fault.ensures
-    (λ e. c.in-Err-scan.ensures.no_anchor (λ i. Err (e i)) h) (λ e. c.in-Err-scan.ensures.worn_out (λ i. Err (e i)) h)
-
-pub returns-in-None-clause-refused : goal.returns-in-None-clause-refused
-returns-in-None-clause-refused g c h =
-    let M = g.M.Machine in
-    none_so c.args.sectors c.in-Ok.roots.first c.in-Ok.roots.second (M.now c.args.m.now) (M.now c.find_roots.new.m) (c.in-Ok.ensures.seen h) (sym c.taken.ensures ∙ c.in-None.is)
+    let old = M.now c.args.m.now in let new = M.now c.read_saved.new.m in
+    let fault = c.in-Err.fault in
+    let reads = reads_then c.in_ok-layout.ensures.reads c.in-Err.ensures.reads in
+    record {
+      reads = reads_told (map_told fault c.map_fault.result c.map_fault.ensures) reads;
+      sound = map_sound fault c.map_fault.result c.map_fault.ensures;
+      found = tt;
+      root = tt;
+      seen = tt;
+      refused = λ h. map_refused c.args.sectors old new fault c.map_fault.result c.map_fault.ensures (reads.worn h);
+      believes = tt;
+      none = tt;
+    }
