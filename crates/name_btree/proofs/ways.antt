@@ -1,5 +1,6 @@
 -- The way from page 0 down to a leaf.
 pub mod AloneLaws
+pub mod AlongLaws
 pub mod ChildLaws
 pub mod DescentLaws
 pub mod MemoryLaws

@@ -13,7 +13,8 @@ use Rattle.fsd_table.specs.Tree.{entries_below, IsSubtree}
 use Rattle.fsd_forest.specs.Ways.{end_of}
 use Rattle.name_btree.specs.declared.descent.Way.{Way}
 use Rattle.name_btree.specs.declared.descent.Neighbour.{Neighbour}
-use Rattle.name_btree.specs.declared.descent.FoundLeaf.{FoundLeaf}
+use Rattle.name_btree.specs.declared.descent.LeafBelow.{LeafBelow}
+use Rattle.name_page.specs.Pages.{Step, IsReached}
 
 -- behind the last of the separators that stand before the place, with the nearest child on each side,
 -- below so many pages
@@ -24,6 +25,27 @@ way_to before above previous next first low high (s ∷ separators) =
     let d : Child = record { page = s.child; low = Some s.key; high = end_of high separators } in
     if before s.key then way_to before above (Some (record { child = c; above = above })) next s.child (Some s.key) high separators
     else record { child = c; previous = previous; next = Some (record { child = d; above = above }) }
+
+-- from a start, beside which nothing stands
+abbrev pub way_from : Child → Way
+way_from start = record { child = start; previous = None; next = None }
+
+-- over interior pages that a step has reached the way to a place goes on, so many levels down
+abbrev pub GoesDown : Step → (before : Key → Bool) → (levels above : ℕ) → Way → Way → Type 0
+GoesDown s before zero above w end = w ≡ end
+GoesDown s before (suc levels) above w end =
+    IsReached s w.child.page × (first : ℕ) × (separators : List Separator) × (page_at s.images w.child.page ≡ Some (Interior first separators))
+    × GoesDown s before levels (above + 1) (way_to before (above + 1) w.previous w.next first w.child.low w.child.high separators) end
+
+-- a leaf, and the nearest children on each side of the way to it
+pub record FoundLeaf : Type 0 where
+  pub page : ℕ
+  pub entries : List Entry
+  pub previous : Option Neighbour
+  pub next : Option Neighbour
+
+abbrev pub with_beside : LeafBelow → Way → FoundLeaf
+with_beside leaf w = record { page = leaf.page; entries = leaf.entries; previous = w.previous; next = w.next }
 
 -- an interior page, so that other pages stand below it
 abbrev pub HasChildren : List (List ℕ) → Child → Type 0

@@ -15,7 +15,7 @@ use Rattle.name_page.specs.declared.cut.Cut.TheVariants.{Named, UpTo}
 use Rattle.name_page.specs.Lookups.{first_after, entry_with, is_after, last_that, same_name}
 use Rattle.name_page.specs.Looks.{ShowsEach}
 use Rattle.name_page.specs.Pages.{Step, is_spare, IsReached}
-use Rattle.name_btree.specs.declared.descent.FoundLeaf.{FoundLeaf}
+use Rattle.name_btree.specs.Descent.{FoundLeaf}
 use Rattle.name_btree.specs.declared.descent.LeafAtKey.{LeafAtKey}
 use Rattle.name_btree.specs.declared.descent.Neighbour.{Neighbour}
 use Rattle.name_btree.specs.declared.fault.TreeFault.{TreeFault}

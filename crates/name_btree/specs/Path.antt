@@ -14,11 +14,10 @@ use Rattle.name_page.specs.Cut.{is_before}
 use Rattle.name_page.specs.declared.cut.Cut.TheVariants.{UpTo}
 use Rattle.name_page.specs.declared.pages.Pages.{Ghosts}
 use Rattle.name_page.specs.Pages.{is_spare, NeedsNoMemory}
-use Rattle.name_btree.specs.declared.descent.FoundLeaf.{FoundLeaf}
 use Rattle.name_btree.specs.declared.descent.Neighbour.{Neighbour}
 use Rattle.name_btree.specs.declared.fault.TreeFault.{TreeFault}
 use Rattle.name_btree.specs.declared.lookup.FoundEntry.{FoundEntry}
-use Rattle.name_btree.specs.Descent.{way_to}
+use Rattle.name_btree.specs.Descent.{way_to, FoundLeaf}
 use Rattle.name_btree.specs.Fault.{outer_told}
 
 -- what is met from a child beside the way on, down its last children

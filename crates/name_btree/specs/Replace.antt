@@ -16,7 +16,7 @@ use Rattle.name_page.specs.Looks.{HasAllIn}
 use Rattle.name_page.specs.declared.cut.Cut.{Cut}
 use Rattle.name_page.specs.declared.cut.Cut.TheVariants.{UpTo}
 use Rattle.name_page.specs.Lookups.{entry_with}
-use Rattle.name_btree.specs.declared.descent.FoundLeaf.{FoundLeaf}
+use Rattle.name_btree.specs.Descent.{FoundLeaf}
 use Rattle.name_btree.specs.Map.{IsTable, HasTable}
 use Rattle.name_btree.specs.Path.{HasWayTo}
 use Rattle.name_btree.specs.Remove.{IsAround}

@@ -1,17 +1,20 @@
 //! The way to a leaf.
 ghost use Rattle.std.specs.List.{Contains};
-ghost use Rattle.std.specs.Prelude.{◌≡◌, ◌+◌, ◌-◌, ◌<◌, ◌≤◌, IfOk, IfErr, MatchResult, Some, length, drop, slice_get, false};
+ghost use Rattle.std.specs.Prelude.{◌≡◌, ◌+◌, ◌-◌, ◌<◌, ◌≤◌, ℕ, IfOk, IfErr, MatchResult, Option, Some, length, drop, slice_get, false};
 ghost use Rattle.fsd_formats.specs.declared.entry.Entry.{Entry};
 ghost use Rattle.fsd_table.specs.declared.child.Child.{Child};
 ghost use Rattle.fsd_table.specs.Pages.{children};
-ghost use Rattle.fsd_table.specs.Table.{max_height};
+ghost use Rattle.fsd_table.specs.Table.{max_height, top};
 ghost use Rattle.fsd_forest.specs.Ways.{end_of};
 ghost use Rattle.name_page.specs.Cut.{is_before};
 ghost use Rattle.name_page.specs.declared.cut.Cut.TheVariants.{UpTo};
-ghost use Rattle.name_btree.specs.Descent.{way_to};
+ghost use Rattle.name_btree.specs.Descent.{way_from, way_to, GoesDown};
+ghost use Rattle.name_btree.specs.declared.descent.Neighbour.{Neighbour};
+ghost use Rattle.name_btree.specs.declared.descent.Way.{Way};
 ghost use Rattle.name_btree.specs.Fault.{outer_told, FailsDown, is_inner};
-ghost use Rattle.name_btree.specs.Lookup.{FailsBelow, IsFoundBelow, IsFoundLeaf};
-ghost use Rattle.name_btree.specs.Path.{HasMet, Leads, StaysBelow};
+ghost use Rattle.name_btree.specs.Lookup.{FailsBelow, IsFoundLeaf};
+ghost use Rattle.name_btree.specs.Along.{IsFoundAlong};
+ghost use Rattle.name_btree.specs.Path.{HasMet, Leads, TakesNone};
 ghost use Rattle.name_page.specs.Looks.{OnlyReaches};
 ghost use Rattle.name_page.specs.Pages.{reaches};
 
@@ -21,7 +24,7 @@ use crate::lookup::top;
 use crate::walking::child_at;
 use fsd_bytes::Key;
 use fsd_table::Child;
-use name_page::{Cut, Entries, Node, Pages, Ways, ways_before};
+use name_page::{Cut, Entries, Node, Pages, Ways, node_in, ways_before};
 
 /// A child beside the way to a leaf, and how many pages stand above it.
 #[derive(Drop)]
@@ -30,21 +33,20 @@ pub(crate) struct Neighbour {
     pub(crate) above: u32,
 }
 
-// A child, and the nearest ones on each side of it.
+/// A child, and the nearest ones on each side of it.
 #[derive(Drop)]
-struct Way {
-    child: Child,
-    previous: Option<Neighbour>,
-    next: Option<Neighbour>,
-}
-
-/// The leaf at a place between keys, and the nearest children on each side of the way to it.
-#[derive(Drop)]
-pub(crate) struct FoundLeaf {
-    pub(crate) page: u32,
-    pub(crate) entries: Entries,
+pub(crate) struct Way {
+    pub(crate) child: Child,
     pub(crate) previous: Option<Neighbour>,
     pub(crate) next: Option<Neighbour>,
+}
+
+/// The leaf at a place between keys, and how many levels below the start it stands.
+#[derive(Drop)]
+pub(crate) struct LeafBelow {
+    pub(crate) page: u32,
+    pub(crate) entries: Entries,
+    pub(crate) levels: u32,
 }
 
 pub(crate) fn copied(key: &Option<Key>) -> Option<Key>
@@ -123,43 +125,67 @@ fn way_to(ways: &Ways, way: Way, above: u32, cut: &Cut) -> Way
     }
 }
 
-/// The leaf at a place between keys, below a child that so many pages stand above.
+// The child at a place between keys.
+fn child_to(ways: &Ways, child: &Child, cut: &Cut) -> Child
+    ensures { (above : ℕ) → (previous next : Option Neighbour) → result ≡ (way_to (is_before cut.now) above previous next ways.now.0 child.now.low child.now.high ways.now.1).child }
+{
+    child_at(ways, ways_before(ways, cut), child)
+}
+
+/// The leaf at a place between keys, below a child that so many pages stand above. What stands beside the way is not made.
 pub(crate) fn leaf_below<T: Pages>(
     t: &mut T,
     start: Child,
     above: u32,
     cut: &Cut,
-) -> Result<FoundLeaf, TreeFault>
+) -> Result<LeafBelow, TreeFault>
     requires { 6 ≤ reaches (T.step t.old) }
     ensures calls { OnlyReaches T.Pages (outer_told result) t.old t.new }
     ensures reaches { reaches (T.step t.old) ≤ reaches (T.step t.new) + 6 }
-    ensures found { IfOk result (IsFoundBelow (T.step t.old) (T.step t.new) cut.now above start) }
-    ensures memory { HasMet T.Pages above (is_before cut.now) start t.old → StaysBelow T.Pages (is_before cut.now) above start t.old t.new result }
+    ensures found { IfOk result (IsFoundAlong T.Pages cut.now above start t.old t.new) }
+    ensures memory { HasMet T.Pages above (is_before cut.now) start t.old → TakesNone T.Pages (outer_told result) t.old t.new }
     ensures again { (e : Entry) → cut.now ≡ UpTo e.key → Leads T.Pages (max_height - above) t.old e start → MatchResult result (λ found. Contains found.entries e) (λ fault. is_inner fault ≡ false) }
     ensures failed { IfErr result (FailsBelow (T.step t.new) above start) }
 {
+    let from = above;
+    let mut child = start;
+    for above in above..6 {
+        let mut node = Node::Free;
+        read_child(t, &child, &mut node)?;
+        match node {
+            Node::Free => return Err(TreeFault::Broken(child.page)),
+            Node::Leaf(entries) => {
+                return Ok(LeafBelow {
+                    page: child.page,
+                    entries,
+                    levels: above - from,
+                });
+            }
+            Node::Interior(ways) => child = child_to(&ways, &child, cut),
+        }
+    }
+    Err(TreeFault::Broken(child.page))
+}
+
+/// The way from page 0 to a leaf so many levels below, with what stands beside it. It goes over pages that the step has
+/// reached, and reaches none.
+pub(crate) fn way_again<T: Pages>(t: &T, levels: u32, cut: &Cut) -> Way
+    requires { (end : Way) × GoesDown (T.step t.now) (is_before cut.now) levels 0 (way_from top) end }
+    ensures { (end : Way) → GoesDown (T.step t.now) (is_before cut.now) levels 0 (way_from top) end → result ≡ end }
+{
     let mut way = Way {
-        child: start,
+        child: top(),
         previous: None,
         next: None,
     };
-    for above in above..6 {
-        let mut node = Node::Free;
-        read_child(t, &way.child, &mut node)?;
-        match node {
-            Node::Free => return Err(TreeFault::Broken(way.child.page)),
-            Node::Leaf(entries) => {
-                return Ok(FoundLeaf {
-                    page: way.child.page,
-                    entries,
-                    previous: way.previous,
-                    next: way.next,
-                });
-            }
+    for above in 0..levels {
+        match node_in(t.look(way.child.page)) {
             Node::Interior(ways) => way = way_to(&ways, way, above + 1, cut),
+            Node::Free => return way,
+            Node::Leaf(_) => return way,
         }
     }
-    Err(TreeFault::Broken(way.child.page))
+    way
 }
 
 /// A leaf, and its page.
@@ -177,6 +203,7 @@ pub(crate) fn leaf_at<T: Pages>(t: &mut T, key: &Key) -> Result<LeafAtKey, TreeF
     ensures found { IfOk result (IsFoundLeaf (T.step t.old) (T.step t.new) key.now) }
     ensures failed { IfErr result (FailsDown (T.step t.new)) }
 {
+    let cut = Cut::UpTo(key.copied());
     let mut child = top();
     for _ in 0..6u32 {
         let mut node = Node::Free;
@@ -190,7 +217,7 @@ pub(crate) fn leaf_at<T: Pages>(t: &mut T, key: &Key) -> Result<LeafAtKey, TreeF
                 });
             }
             Node::Interior(ways) => {
-                let i = ways_before(&ways, &Cut::UpTo(key.copied()));
+                let i = ways_before(&ways, &cut);
                 child = child_at(&ways, i, &child);
             }
         }

@@ -15,7 +15,7 @@ ghost use Rattle.name_page.specs.declared.pages.TheConstants.{MOST_REACHED};
 ghost use Rattle.name_page.specs.Looks.{OnlyReaches};
 ghost use Rattle.name_page.specs.Pages.{reaches};
 
-use crate::descent::{Neighbour, leaf_at, leaf_below};
+use crate::descent::{Neighbour, leaf_at, leaf_below, way_again};
 use crate::fault::TreeFault;
 use fsd_bytes::{FileName, Key};
 use fsd_formats::Entry;
@@ -185,7 +185,8 @@ pub fn next_after<T: Pages>(t: &mut T, after: Option<&Key>) -> Result<Option<Fou
         let page = found.page;
         return Ok(Some(FoundEntry { entry, page }));
     }
-    match found.next {
+    let way = way_again(t, found.levels, &cut);
+    match way.next {
         Some(next) => Ok(Some(first_below(t, next)?)),
         None => Ok(None),
     }
@@ -208,7 +209,8 @@ pub fn highest<T: Pages>(t: &mut T, name: &FileName) -> Result<Option<FoundEntry
         let page = found.page;
         return Ok(named(FoundEntry { entry, page }, name));
     }
-    match found.previous {
+    let way = way_again(t, found.levels, &cut);
+    match way.previous {
         Some(previous) => Ok(named(last_below(t, previous)?, name)),
         None => Ok(None),
     }

@@ -1,6 +1,6 @@
 -- The entries of a leaf, one after another.
-use Rattle.std.proofs.Common.{◌≡◌, ℕ, suc, ◌+◌, ◌-◌, ◌*◌, ◌^◌, ◌<◌, ◌≤◌, Bool, true, false, cond, ◌&&◌, List, [], ◌∷◌, ◌++◌, length, drop, map, Option, Some, None, refl, sym, ap, subst, ◌∙◌, arith, append_assoc}
-use Rattle.std.specs.Prelude.{slice_get, ◌==◌, nat_le, is_none, Ok}
+use Rattle.std.proofs.Common.{◌≡◌, ℕ, suc, ◌+◌, ◌-◌, ◌*◌, ◌^◌, ◌<◌, ◌≤◌, Bool, true, false, cond, ◌&&◌, List, [], ◌∷◌, ◌++◌, length, drop, map, Some, None, refl, sym, ap, subst, ◌∙◌, arith, append_assoc}
+use Rattle.std.specs.Prelude.{slice_get, ◌==◌, nat_le}
 use Rattle.std.specs.List.{flat_map, list_all}
 use Rattle.std.proofs.lemmas.Bool.{and_parts, and_from}
 use Rattle.std.proofs.lemmas.List.{drop-drop, length-append}
@@ -8,10 +8,8 @@ use Rattle.fsd_bytes.specs.Bytes.{u8_at, u16_at, u32_at}
 use Rattle.run_table.specs.declared.run.Run.{Run}
 use Rattle.run_table.specs.RunTable.{run_of, run_at, runs_from, are_runs, total, max_runs}
 use Rattle.fsd_formats.specs.declared.entry.Entry.{Entry}
-use Rattle.fsd_bytes.specs.Names.{is_between, is_name, name_fault, name_of, named_unless}
-use Rattle.fsd_bytes.specs.declared.fault.NameFault.{NameFault}
+use Rattle.fsd_bytes.specs.Names.{is_between, is_name}
 use Rattle.fsd_bytes.specs.Keys.{is_key}
-use Rattle.fsd_bytes.proofs.NameLaws.{name_or_fault}
 use Rattle.fsd_bytes.specs.Bytes.{same_bytes}
 use Rattle.fsd_bytes.proofs.FieldLaws.{AreSmall, u16_behind, u32_there}
 use Rattle.fsd_bytes.proofs.SameLaws.{same_is}
@@ -119,21 +117,14 @@ leaf_in bytes i small h =
 
 -- ---- one entry
 
-pub named_by : (bytes name : List ℕ) → is_name name ≡ true → bytes ≡ name → name_of bytes ≡ Ok name
-named_by bytes name is same = ap name_of same ∙ named (name_fault name) name (sym (name_or_fault name) ∙ is)
-  where
-    named : (o : Option NameFault) (name : List ℕ) → is_none o ≡ true → named_unless o name ≡ Ok name
-    named None name h = refl
-    named (Some fault) name h = absurd cc
-
-pub named_entry : (e : Entry) (bytes : List ℕ) → is_entry e ≡ true → bytes ≡ e.key.name → name_of bytes ≡ Ok e.key.name
+pub named_entry : (e : Entry) (bytes : List ℕ) → is_entry e ≡ true → bytes ≡ e.key.name → is_name bytes ≡ true
 named_entry e bytes is same =
     let p5 = and_parts (is_key e.key && nat_le e.keep max_keep && nat_le e.length max_length && are_runs e.runs) (total e.runs == sectors_for e.length) is in
     let p4 = and_parts (is_key e.key && nat_le e.keep max_keep && nat_le e.length max_length) (are_runs e.runs) p5.0 in
     let p3 = and_parts (is_key e.key && nat_le e.keep max_keep) (nat_le e.length max_length) p4.0 in
     let p2 = and_parts (is_key e.key) (nat_le e.keep max_keep) p3.0 in
     let p1 = and_parts (is_name e.key.name) (nat_le 1 e.key.version) p2.0 in
-    named_by bytes e.key.name p1.0 same
+    ap is_name same ∙ p1.0
 
 pub runs_few : (e : Entry) → is_entry e ≡ true → length e.runs ≤ 8
 runs_few e is =

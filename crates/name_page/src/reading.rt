@@ -57,7 +57,7 @@ pub(crate) fn entry_at(b: &[u8; 512], place: usize) -> Entry
 {
     let at = place + 1 + usize::from(u8_at(b, place));
     let key = Key {
-        name: FileName::parse(&b[place + 1..at]).unwrap(),
+        name: FileName::of(&b[place + 1..at]),
         version: u32_at(b, at),
     };
     let serial = Serial {
@@ -154,7 +154,7 @@ fn separator_at(b: &[u8; 512], place: usize) -> Separator
 {
     let n = usize::from(u8_at(b, place));
     let key = Key {
-        name: FileName::parse(&b[place + 1..place + 1 + n]).unwrap(),
+        name: FileName::of(&b[place + 1..place + 1 + n]),
         version: u32_at(b, place + 41),
     };
     Separator {

@@ -14,7 +14,7 @@ use Rattle.fsd_table.specs.Tree.{IsTree, table_of}
 use Rattle.fsd_table.proofs.BoundLaws.{all_weaker}
 use Rattle.fsd_table.proofs.KeyLaws.{lt_le}
 use Rattle.name_page.specs.declared.cut.Cut.TheVariants.{UpTo}
-use Rattle.name_btree.specs.declared.descent.FoundLeaf.{FoundLeaf}
+use Rattle.name_btree.specs.Descent.{FoundLeaf}
 use Rattle.name_btree.specs.declared.descent.Neighbour.{Neighbour}
 use Rattle.name_page.specs.Cut.{is_before}
 use Rattle.name_page.specs.Cut.{IsLesser}

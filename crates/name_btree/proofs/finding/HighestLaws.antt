@@ -17,7 +17,7 @@ use Rattle.fsd_table.specs.Table.{top}
 use Rattle.fsd_table.specs.Tree.{IsTree, table_of}
 use Rattle.fsd_table.proofs.BoundLaws.{all_append, all_weaker, Ascend, ascend_skip, ascend_tail, entries_ascend}
 use Rattle.name_page.specs.declared.cut.Cut.TheVariants.{Named}
-use Rattle.name_btree.specs.declared.descent.FoundLeaf.{FoundLeaf}
+use Rattle.name_btree.specs.Descent.{FoundLeaf}
 use Rattle.name_btree.specs.declared.descent.Neighbour.{Neighbour}
 use Rattle.name_page.specs.Cut.{is_before}
 use Rattle.name_page.specs.Cut.{IsLesser}

@@ -31,7 +31,7 @@ use Rattle.name_page.specs.Looks.{Looks, Agrees, ShowsEach}
 use Rattle.name_page.specs.Pages.{Step, is_spare, IsReached}
 use Rattle.name_page.proofs.CutLaws.{cuts_monotone, behind}
 use Rattle.name_page.proofs.LookLaws.{agrees_before}
-use Rattle.name_btree.specs.declared.descent.FoundLeaf.{FoundLeaf}
+use Rattle.name_btree.specs.Descent.{FoundLeaf}
 use Rattle.name_btree.specs.declared.descent.Neighbour.{Neighbour}
 use Rattle.name_btree.specs.declared.descent.Way.{Way}
 use Rattle.name_btree.specs.declared.fault.TreeFault.{TreeFault}

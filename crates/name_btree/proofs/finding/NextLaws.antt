@@ -25,7 +25,7 @@ use Rattle.fsd_table.proofs.PageLaws.{at_is_page}
 use Rattle.name_page.proofs.LeafLaws.{between}
 use Rattle.name_page.specs.declared.cut.Cut.{Cut}
 use Rattle.name_page.specs.declared.cut.Cut.TheVariants.{Start, End}
-use Rattle.name_btree.specs.declared.descent.FoundLeaf.{FoundLeaf}
+use Rattle.name_btree.specs.Descent.{FoundLeaf}
 use Rattle.name_btree.specs.declared.descent.Neighbour.{Neighbour}
 use Rattle.name_page.specs.Cut.{is_before, after_cut}
 use Rattle.name_page.specs.Cut.{IsLesser}

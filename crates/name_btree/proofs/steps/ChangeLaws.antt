@@ -15,7 +15,7 @@ use Rattle.name_page.specs.Pages.{Step, is_spare}
 use Rattle.name_page.specs.declared.cut.Cut.TheVariants.{UpTo}
 use Rattle.name_page.specs.Edits.{put}
 use Rattle.name_page.proofs.PutLaws.{lt_unequal, gt_unequal, put_keys, put_beside}
-use Rattle.name_btree.specs.declared.descent.FoundLeaf.{FoundLeaf}
+use Rattle.name_btree.specs.Descent.{FoundLeaf}
 use Rattle.name_btree.specs.Map.{IsTable, HasTable}
 use Rattle.name_btree.specs.Replace.{HasEdit, IsWritten, IsLeafAt}
 use Rattle.name_btree.proofs.mending.RemoveLaws.{one_page}

@@ -20,7 +20,7 @@ use Rattle.fsd_table.proofs.PageLaws.{at_is_page, leaf_ascends}
 use Rattle.name_page.proofs.LeafLaws.{between}
 use Rattle.fsd_table.proofs.EntryLaws.{entries_long}
 use Rattle.name_page.specs.declared.cut.Cut.TheVariants.{UpTo}
-use Rattle.name_btree.specs.declared.descent.FoundLeaf.{FoundLeaf}
+use Rattle.name_btree.specs.Descent.{FoundLeaf}
 use Rattle.name_page.specs.Cut.{is_before}
 use Rattle.name_btree.specs.Descent.{IsLeafOfPlace}
 use Rattle.name_page.specs.Edits.{put}

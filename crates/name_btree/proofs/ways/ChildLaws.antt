@@ -17,7 +17,7 @@ use Rattle.name_page.specs.Lookups.{same_name}
 use Rattle.name_page.specs.Looks.{Looks, ShowsEach}
 use Rattle.name_page.specs.Pages.{Step, is_spare, IsReached}
 use Rattle.name_page.proofs.LookLaws.{agrees_at, agrees_before, agrees_now}
-use Rattle.name_btree.specs.declared.descent.FoundLeaf.{FoundLeaf}
+use Rattle.name_btree.specs.Descent.{FoundLeaf}
 use Rattle.name_btree.specs.declared.descent.Neighbour.{Neighbour}
 use Rattle.name_btree.specs.declared.descent.Way.{Way}
 use Rattle.name_btree.specs.Descent.{way_to, GoesTo, HasNeighbours, IsNeighbour, LeadsDown}

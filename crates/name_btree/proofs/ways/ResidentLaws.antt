@@ -21,7 +21,7 @@ use Rattle.name_page.specs.declared.cut.Cut.TheVariants.{Named, UpTo}
 use Rattle.name_page.specs.Cut.{is_before}
 use Rattle.name_page.specs.Pages.{is_spare, IsOuter}
 use Rattle.name_page.proofs.LookLaws.{memory_still, memory_then}
-use Rattle.name_btree.specs.declared.descent.FoundLeaf.{FoundLeaf}
+use Rattle.name_btree.specs.Descent.{FoundLeaf}
 use Rattle.name_btree.specs.declared.descent.Neighbour.{Neighbour}
 use Rattle.name_btree.specs.declared.descent.Way.{Way}
 use Rattle.name_btree.specs.declared.fault.TreeFault.{TreeFault}

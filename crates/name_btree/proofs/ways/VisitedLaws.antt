@@ -13,7 +13,7 @@ use Rattle.fsd_table.specs.Table.{max_height, top, visit_of, IsVisited, BreaksTa
 use Rattle.fsd_table.proofs.BreakLaws.{visited_top, visited_children, above_visited, misfit_breaks, too_deep_breaks}
 use Rattle.name_btree.specs.declared.descent.Way.{Way}
 use Rattle.name_btree.specs.declared.descent.Neighbour.{Neighbour}
-use Rattle.name_btree.specs.declared.descent.FoundLeaf.{FoundLeaf}
+use Rattle.name_btree.specs.Descent.{FoundLeaf}
 use Rattle.name_btree.specs.declared.fault.TreeFault.{TreeFault}
 use Rattle.name_btree.specs.declared.fault.TreeFault.TheVariants.{Pages, Broken}
 use Rattle.name_btree.specs.Descent.{way_to, HasChildren, IsNeighbour, HasNeighbours}

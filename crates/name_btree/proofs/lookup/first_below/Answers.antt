@@ -11,14 +11,16 @@ use Rattle.name_page.specs.declared.cut.Cut.TheVariants.{Start}
 use Rattle.name_btree.specs.Lookup.{IsReadLeaf}
 use Rattle.fsd_table.specs.declared.child.Child.{Child}
 use Rattle.std.proofs.lemmas.Result.{err_from_is_err_and}
+use Rattle.name_btree.specs.Descent.{with_beside, FoundLeaf}
 use Rattle.name_btree.proofs.ways.VisitedLaws.{root_above, neighbour_breaks, shown_beside}
 use Rattle.name_btree.proofs.lookup.first_below.Goals as goal
 
 pub returns-then-len-eq0-clause-failed : goal.returns-then-len-eq0-clause-failed
 returns-then-len-eq0-clause-failed g c =
-    let found = c.in_ok-found.found in
+    let along = c.in_ok-found.ensures.found in
+    let found : FoundLeaf = with_beside c.in_ok-found.found along.way in
     let s = g.T.Pages.step c.leaf_below.new.t in
-    let e = c.in_ok-found.ensures.found in
+    let e = along.found in
     let used : is_spare s.spares found.page ≡ false = ap (λ (x : List Bool). is_spare x found.page) c.in_ok-found.ensures.calls.looks.spares ∙ e.used in
     let none : length found.entries ≡ 0 = omega arith in
     record {
@@ -45,9 +47,10 @@ returns-clause-found g c =
     let old = g.T.Pages.step c.args.t.now in
     let s = g.T.Pages.step c.leaf_below.new.t in
     let n = c.args.next in
-    let found = c.in_ok-found.found in
+    let along = c.in_ok-found.ensures.found in
+    let found : FoundLeaf = with_beside c.in_ok-found.found along.way in
     let spares = c.in_ok-found.ensures.calls.looks.spares in
-    let e = c.in_ok-found.ensures.found in
+    let e = along.found in
     let leaf : Child = e.from.0 in
     let led = e.from.1 in
     let at = c.get.ensures.there in

@@ -9,14 +9,16 @@ use Rattle.name_btree.specs.Lookup.{IsReadLeaf}
 use Rattle.name_page.specs.declared.cut.Cut.TheVariants.{End}
 use Rattle.fsd_table.specs.declared.child.Child.{Child}
 use Rattle.std.proofs.lemmas.Result.{err_from_is_err_and}
+use Rattle.name_btree.specs.Descent.{with_beside, FoundLeaf}
 use Rattle.name_btree.proofs.ways.VisitedLaws.{root_above, neighbour_breaks, shown_beside}
 use Rattle.name_btree.proofs.lookup.last_below.Goals as goal
 
 pub returns-then-count-eq0-clause-failed : goal.returns-then-count-eq0-clause-failed
 returns-then-count-eq0-clause-failed g c =
-    let found = c.in_ok-found.found in
+    let along = c.in_ok-found.ensures.found in
+    let found : FoundLeaf = with_beside c.in_ok-found.found along.way in
     let s = g.T.Pages.step c.leaf_below.new.t in
-    let e = c.in_ok-found.ensures.found in
+    let e = along.found in
     let used : is_spare s.spares found.page ≡ false = ap (λ (x : List Bool). is_spare x found.page) c.in_ok-found.ensures.calls.looks.spares ∙ e.used in
     let none : length found.entries ≡ 0 = omega arith in
     record {
@@ -43,9 +45,10 @@ returns-clause-found g c =
     let old = g.T.Pages.step c.args.t.now in
     let s = g.T.Pages.step c.leaf_below.new.t in
     let n = c.args.previous in
-    let found = c.in_ok-found.found in
+    let along = c.in_ok-found.ensures.found in
+    let found : FoundLeaf = with_beside c.in_ok-found.found along.way in
     let spares = c.in_ok-found.ensures.calls.looks.spares in
-    let e = c.in_ok-found.ensures.found in
+    let e = along.found in
     let leaf : Child = e.from.0 in
     let led = e.from.1 in
     let count = c.len-count.result in
@@ -73,12 +76,12 @@ returns-clause-found g c =
 pub returns-in_err-found-clause-memory : goal.returns-in_err-found-clause-memory
 returns-in_err-found-clause-memory g c = λ has.
     let p = err_from_is_err_and c.from_residual.result c.from_residual.ensures.1 in
-    rw (p.1, p.2) (record { none = (c.in_err-found.ensures.memory has).none; back = tt })
+    rw (p.1, p.2) (record { none = c.in_err-found.ensures.memory has; back = tt })
 
 pub returns-then-count-eq0-clause-memory : goal.returns-then-count-eq0-clause-memory
-returns-then-count-eq0-clause-memory g c = λ has. record { none = (c.in_ok-found.ensures.memory has).none; back = tt }
+returns-then-count-eq0-clause-memory g c = λ has. record { none = c.in_ok-found.ensures.memory has; back = tt }
 
 pub returns-clause-memory : goal.returns-clause-memory
 returns-clause-memory g c = λ has.
-    let met = c.in_ok-found.ensures.memory has in
+    let met = c.in_ok-found.ensures.found.stays has in
     record { none = met.none; back = met.back.here c.get.result (contains_at c.in_ok-found.found.entries (c.len-count.result - 1) c.get.result c.get.ensures.there) }

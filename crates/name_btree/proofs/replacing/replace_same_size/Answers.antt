@@ -6,7 +6,7 @@ use Rattle.fsd_table.specs.declared.child.Child.{Child}
 use Rattle.name_page.proofs.LookLaws.{looks_pages, pages_then, reaches_walks, walks_edits, walks_pages, shows_trusted}
 use Rattle.name_page.specs.declared.cut.Cut.TheVariants.{UpTo}
 use Rattle.name_page.specs.Cut.{is_before}
-use Rattle.name_btree.specs.Descent.{IsLeafOfPlace}
+use Rattle.name_btree.specs.Descent.{with_beside, FoundLeaf, IsLeafOfPlace}
 use Rattle.fsd_table.specs.Tree.{IsTree}
 use Rattle.name_btree.specs.declared.fault.TreeFault.TheVariants.{Broken}
 use Rattle.name_btree.specs.Fault.{FailsTree}
@@ -26,14 +26,14 @@ use Rattle.name_btree.proofs.steps.ReplaceLaws.{as_long_there}
 use Rattle.name_btree.proofs.replacing.replace_same_size.Goals as goal
 
 pub put_among-list-requires-clause-few : goal.put_among-list-requires-clause-few
-put_among-list-requires-clause-few g c = few_in_leaf (g.T.Pages.step c.leaf_below.new.t).images c.in-Ok.found.page c.in-Ok.found.entries c.in-Ok.ensures.found.leaf
+put_among-list-requires-clause-few g c = few_in_leaf (g.T.Pages.step c.leaf_below.new.t).images c.in-Ok.found.page c.in-Ok.found.entries c.in-Ok.ensures.found.found.leaf
 
 pub put_leaf-requires-clause-accepted : goal.put_leaf-requires-clause-accepted
 put_leaf-requires-clause-accepted g c =
-    let found = c.in-Ok.found in
+    let found : FoundLeaf = with_beside c.in-Ok.found c.in-Ok.ensures.found.way in
     let same : c.as_slice.result.now ≡ map _ found.entries = c.as_slice.ensures.value ∙ c.put_among-list.ensures.put in
     ap (λ (xs : List Entry). is_page found.page 0 (Leaf xs)) same
-    ∙ put_is_page (g.T.Pages.step c.leaf_below.new.t).images found.page c.args.entry.now found.entries c.in-Ok.ensures.found.leaf c.requires.entry (c.has_as_long.ensures.long c.if-not-has_as_long.false)
+    ∙ put_is_page (g.T.Pages.step c.leaf_below.new.t).images found.page c.args.entry.now found.entries c.in-Ok.ensures.found.found.leaf c.requires.entry (c.has_as_long.ensures.long c.if-not-has_as_long.false)
 
 pub returns-in-Err-clause-edits : goal.returns-in-Err-clause-edits
 returns-in-Err-clause-edits g c =
@@ -65,12 +65,12 @@ returns-then-not-has_as_long-clause-failed g c =
     let old = c.args.t.now in
     let mid = c.leaf_below.new.t in
     let calls = c.in-Ok.ensures.calls in
-    let found = c.in-Ok.found in
+    let found : FoundLeaf = with_beside c.in-Ok.found c.in-Ok.ensures.found.way in
     let pages = (G.step old).images in
     let f = c.fault_of-then-not-has_as_long in
     let fails : FailsTree G mid (Broken found.page) = λ trusted.
     let P : List (List ℕ) → Type 0 = λ (x : List (List ℕ)). IsLeafOfPlace (is_before (UpTo c.copied.result)) x c.top.result found in
-    let seen : P pages = shows_trusted G P old mid calls c.in-Ok.ensures.found.place trusted in
+    let seen : P pages = shows_trusted G P old mid calls c.in-Ok.ensures.found.found.place trusted in
     let by_key : Key → Type 0 = λ (k : Key). IsLeafOfPlace (is_before (UpTo k)) pages c.top.result found in
     let by_top : Child → Type 0 = λ (d : Child). IsLeafOfPlace (is_before (UpTo c.args.entry.now.key)) pages d found in
     let place = subst by_top c.top.ensures (subst by_key c.copied.ensures seen) in
@@ -90,13 +90,13 @@ returns-clause-edits g c =
     record {
       calls = written_edits G g.met.T.Pages.then g.met.T.Pages.trust old mid new page _ calls c.put_leaf.ensures.outside written;
       pages = pages_then (G.step old) (G.step mid) (G.step new) (written_count (G.step mid) (G.step new) page _ written) (looks_pages (G.step old) (G.step mid) calls.looks)
-          (written_pages (G.step mid) (G.step new) page _ written c.in-Ok.ensures.found.reached.0);
+          (written_pages (G.step mid) (G.step new) page _ written c.in-Ok.ensures.found.found.reached.0);
       kept = tt;
     }
 
 pub returns-clause-written : goal.returns-clause-written
 returns-clause-written g c =
-    written_one g.T.Pages g.met.T.Pages.trust c.args.t.now c.leaf_below.new.t c.put_leaf.new.t c.in-Ok.found.page _ c.in-Ok.ensures.calls c.put_leaf.ensures.outside c.put_leaf.ensures.written c.in-Ok.ensures.found.reached.0 c.in-Ok.ensures.found.used
+    written_one g.T.Pages g.met.T.Pages.trust c.args.t.now c.leaf_below.new.t c.put_leaf.new.t c.in-Ok.found.page _ c.in-Ok.ensures.calls c.put_leaf.ensures.outside c.put_leaf.ensures.written c.in-Ok.ensures.found.found.reached.0 c.in-Ok.ensures.found.found.used
 
 pub returns-clause-replaced : goal.returns-clause-replaced
 returns-clause-replaced g c =
@@ -104,14 +104,14 @@ returns-clause-replaced g c =
     let old = c.args.t.now in
     let mid = c.leaf_below.new.t in
     let new = c.put_leaf.new.t in
-    let found = c.in-Ok.found in
+    let found : FoundLeaf = with_beside c.in-Ok.found c.in-Ok.ensures.found.way in
     let calls = c.in-Ok.ensures.calls in
     let back = g.met.T.Pages.trust mid new _ c.put_leaf.ensures.outside in
     let pages = (G.step old).images in
     let P : List (List ℕ) → Type 0 = λ (x : List (List ℕ)). IsLeafAt (UpTo c.copied.result) x c.top.result found in
     let by_key : Key → Type 0 = λ (k : Key). IsLeafAt (UpTo k) pages c.top.result found in
     let by_top : Child → Type 0 = λ (d : Child). IsLeafAt (UpTo c.args.entry.now.key) pages d found in
-    let at : G.trusted mid → by_top top = λ t. subst by_top c.top.ensures (subst by_key c.copied.ensures (shows_trusted G P old mid calls c.in-Ok.ensures.found.at t)) in
+    let at : G.trusted mid → by_top top = λ t. subst by_top c.top.ensures (subst by_key c.copied.ensures (shows_trusted G P old mid calls c.in-Ok.ensures.found.found.at t)) in
     let put_in = subst (λ (xs : List Entry). IsWritten (G.step mid) (G.step new) found.page (Leaf xs)) (c.as_slice.ensures.value ∙ c.put_among-list.ensures.put) c.put_leaf.ensures.written in
     record {
       tree = λ trusted. let t = back trusted in tree_replaced c.args.entry.now (G.step old) (G.step mid) (G.step new) found (calls.stays t) put_in (at t);
@@ -129,7 +129,7 @@ returns-in-Err-clause-memory g c =
           let same : UpTo c.copied.result ≡ UpTo old.key = ap (λ (k : Key). UpTo k) (c.copied.ensures ∙ sym long.key) in
           let lead : Leads P max_height t old c.top.result = subst (Leads P max_height t old) (sym c.top.ensures) way in
           let has = subst (λ (k : Cut). HasMet P 0 (is_before k) c.top.result t) (sym same) (lead_met P max_height t old c.top.result [] lead) in
-          (c.in-Err.ensures.memory has).none.enough (ap outer_of (sym (c.fault_of.ensures.outer (c.in-Err.ensures.again old same lead))) ∙ wants);
+          (c.in-Err.ensures.memory has).enough (ap outer_of (sym (c.fault_of.ensures.outer (c.in-Err.ensures.again old same lead))) ∙ wants);
       all = λ all. (c.fault_of.ensures.memory t c.in-Err.ensures.calls.memory all).enough;
     }
 
@@ -137,13 +137,13 @@ pub returns-then-not-has_as_long-clause-memory : goal.returns-then-not-has_as_lo
 returns-then-not-has_as_long-clause-memory g c =
     let P = g.T.Pages in
     let t = c.args.t.now in
-    let found = c.in-Ok.found in
+    let found : FoundLeaf = with_beside c.in-Ok.found c.in-Ok.ensures.found.way in
     record {
       way = λ old long way wants.
           let same : UpTo c.copied.result ≡ UpTo old.key = ap (λ (k : Key). UpTo k) (c.copied.ensures ∙ sym long.key) in
           let lead : Leads P max_height t old c.top.result = subst (Leads P max_height t old) (sym c.top.ensures) way in
           c.has_as_long.ensures.not c.if-not-has_as_long.true
-          (as_long_there (P.step c.leaf_below.new.t).images found.page found.entries c.args.entry.now old c.in-Ok.ensures.found.leaf (c.in-Ok.ensures.again old same lead) long);
+          (as_long_there (P.step c.leaf_below.new.t).images found.page found.entries c.args.entry.now old c.in-Ok.ensures.found.found.leaf (c.in-Ok.ensures.again old same lead) long);
       all = λ all. (c.fault_of-then-not-has_as_long.ensures.memory t c.in-Ok.ensures.calls.memory all).enough;
     }
 

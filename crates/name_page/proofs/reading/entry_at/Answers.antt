@@ -1,18 +1,16 @@
-use Rattle.std.proofs.Common.{◌≡◌, ℕ, ◌+◌, ◌≤◌, drop, refl, ap, sym, subst, ◌∙◌, arith}
-use Rattle.std.specs.Prelude.{slice_range, Ok}
+use Rattle.std.proofs.Common.{◌≡◌, ℕ, ◌+◌, ◌≤◌, drop, ap, sym, subst, ◌∙◌, arith}
+use Rattle.std.specs.Prelude.{slice_range}
 use Rattle.fsd_bytes.specs.Bytes.{u8_at}
 use Rattle.name_page.specs.Reading.{entry_at}
 use Rattle.name_page.proofs.ReadingLaws.{named_entry, runs_few}
 use Rattle.name_page.proofs.reading.entry_at.Goals as goal
 use Rattle.run_table.proofs.RunLaws.{count_runs}
 
-pub unwrap-requires : goal.unwrap-requires
-unwrap-requires c =
+pub of-requires : goal.of-requires
+of-requires c =
     let e = entry_at c.args.place c.args.b.now in
     let n : c.from.result ≡ u8_at c.args.place c.args.b.now = c.from.ensures ∙ c.u8_at.ensures in
-    let ok : c.parse.result ≡ Ok e.key.name =
-    c.parse.ensures ∙ named_entry e (slice_range c.args.b.now (c.args.place + 1) (c.args.place + 1 + c.from.result)) c.requires.entry (ap (λ (k : ℕ). slice_range c.args.b.now (c.args.place + 1) (c.args.place + 1 + k)) n) in
-    rw ok refl
+    named_entry e (slice_range c.args.b.now (c.args.place + 1) (c.args.place + 1 + c.from.result)) c.requires.entry (ap (λ (k : ℕ). slice_range c.args.b.now (c.args.place + 1) (c.args.place + 1 + k)) n)
 
 pub runs_at-requires-clause-count : goal.runs_at-requires-clause-count
 runs_at-requires-clause-count c =
