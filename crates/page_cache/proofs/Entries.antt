@@ -1,6 +1,7 @@
 -- Entries by their keys, which are pages: what a look-up finds, what stays when one goes, and the last that passes a test.
 use Rattle.std.proofs.Common.{◌≡◌, ℕ, ◌+◌, ◌-◌, ◌<◌, ◌≤◌, Bool, true, false, cond, not, ◌⊎◌, List, [], ◌∷◌, map, reverse, length, take, option_map, is_some, Option, Some, None, IsSome, refl, sym, ap, ◌∙◌, subst, inl, inr, arith, eq-eqb, eqb-true}
-use Rattle.std.specs.Prelude.{nat_eq, find, count_by, ◌==◌}
+use Rattle.std.specs.Prelude.{nat_eq, find, count_by, slice_get, ◌==◌}
+use Rattle.std.proofs.lemmas.Option.{same_Some}
 use Rattle.std.specs.List.{AllByRecursion, IsDistinct}
 use Rattle.std.specs.Option.{option_map_or, option_or}
 use Rattle.std.specs.Map.{keys_of, lookup, lookup_entry, remove_entry}
@@ -22,6 +23,13 @@ by_option (Some x) s n = s x refl
 
 pub same_key : (a : ℕ) → nat_eq a a ≡ true
 same_key a = eq-eqb a a refl
+
+-- the first entry is found by its key
+pub first_found : {X : Type 0} (es : List (ℕ × X)) (page : ℕ) (e : ℕ × X) → slice_get es 0 ≡ Some e → e.0 ≡ page → lookup (nat_eq page) es ≡ Some e.1
+first_found [] page e h same = absurd (let no = h in cc)
+first_found {X} (x ∷ es) page e h same =
+    let found : lookup (nat_eq e.0) (e ∷ es) ≡ Some e.1 = rw (same_key e.0) refl in
+    subst (λ (g : ℕ × X). lookup (nat_eq page) (g ∷ es) ≡ Some e.1) (sym (same_Some x e h)) (subst (λ (p : ℕ). lookup (nat_eq p) (e ∷ es) ≡ Some e.1) same found)
 
 pub key_flips : (a b : ℕ) (t : Bool) → nat_eq a b ≡ t → nat_eq b a ≡ t
 key_flips a b true h = eq-eqb b a (sym (eqb-true a b h))

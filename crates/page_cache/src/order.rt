@@ -1,5 +1,5 @@
 //! The order of use.
-ghost use Rattle.std.specs.Prelude.{◌≡◌, ◌≤◌, ◌+◌, ◌∷◌, IsSome, Some, None, IfOk, OnErr, nat_eq, length, reverse, find, option_map};
+ghost use Rattle.std.specs.Prelude.{◌≡◌, ◌≤◌, ◌+◌, ◌∷◌, IsSome, IfSome, Some, None, IfOk, OnErr, nat_eq, length, reverse, find, option_map};
 ghost use Rattle.std.specs.Map.{lookup};
 ghost use Rattle.std.specs.Option.{option_map_or};
 ghost use Rattle.lru.specs.LruCache.{lru_cache, promoted};
@@ -9,12 +9,25 @@ use crate::cache::Slot;
 use lru::LruCache;
 use std::alloc::AllocError;
 
+// Where a page lies, if it is the most recently used one, which takes no search.
+fn newest_slot(order: &LruCache<u32, Slot>, page: u32) -> Option<Slot>
+    ensures { IfSome result (λ slot. lookup (nat_eq page) order.now.entries ≡ Some slot) }
+{
+    match order.peek_mru() {
+        Some((first, slot)) => { if *first == page { Some(*slot) } else { None } }
+        None => None,
+    }
+}
+
 // Where a page lies that is in memory.
 pub(crate) fn slot_of(order: &LruCache<u32, Slot>, page: u32) -> Slot
     requires { IsSome (lookup (nat_eq page) order.now.entries) }
     ensures { lookup (nat_eq page) order.now.entries ≡ Some result }
 {
-    *order.peek(&page).unwrap()
+    match newest_slot(order, page) {
+        Some(slot) => slot,
+        None => *order.peek(&page).unwrap(),
+    }
 }
 
 // Makes a page the most recently used, and answers its frame; nothing where it is not in memory.
