@@ -1,5 +1,5 @@
 -- What a mount tells up to its name table: where it has settled, where it has failed, and of an image that shows a volume.
-use Rattle.std.specs.Prelude.{◌≡◌, ◌+◌, ◌<◌, ◌≤◌, ◌^◌, ℕ, List, Some, Ok, IfOk, Result, MatchResult}
+use Rattle.std.specs.Prelude.{◌≡◌, ◌+◌, ◌-◌, ◌<◌, ◌≤◌, ◌^◌, ℕ, List, Some, None, Ok, IfOk, IfSome, Result, MatchResult}
 use Rattle.volume_layout.specs.declared.layout.Layout.{Layout}
 use Rattle.volume_layout.specs.Layout.{IsPlanned}
 use Rattle.fsd_formats.specs.declared.anchor.Anchor.{Anchor}
@@ -15,7 +15,8 @@ use Rattle.fsd_sound.specs.Windows.{IsNamedSince}
 use Rattle.fsd_sound.specs.Writes.{KeepsElsewhere, MountKeeps}
 use Rattle.fsd_sound.specs.declared.fault.MountFault.{MountFault}
 use Rattle.mount_recover.specs.declared.mounting.SettledVolume.{SettledVolume}
-use Rattle.mount_recover.specs.Finding.{IsExcuse}
+use Rattle.saved_map.specs.Reading.{Believes}
+use Rattle.mount_recover.specs.Finding.{IsExcuse, SeesNone}
 use Rattle.mount_recover.specs.Lost.{StandAsShown, WritesMost}
 use Rattle.mount_recover.specs.Recover.{HasAnchorTwice, IsFreshLog, IsNotUnsound, IsRefusedFor, IsSettledIn, LeavesAll, writes_most}
 use Rattle.mount_recover.specs.Replay.{IsReplayed, IsUnturned, ReplaysSaid, TurnsLast}
@@ -43,6 +44,10 @@ module _ {D : Type 0} (M : Ghosts D) (sectors : ℕ) (old new : D) where
     -- where nothing wears each page stands at home as the image showed it
     pub shown : (a : Anchor) → M.honest new → IsCalm (M.now old).windows → IsCalm (M.now new).windows → anchor_of (M.now old).image ≡ Some a →
         StandAsShown s.layout a (M.now old).image (M.now new).image
+    -- the saved map is one that the image had, of the epoch that its anchor named
+    pub believes : IfSome s.saved (Believes M s.layout (s.log.anchor.epoch - 1) old new)
+    -- where there is none, the image as it was seen has none that is believed
+    pub none : s.saved ≡ None → M.honest new → SeesNone s.layout (s.log.anchor.epoch - 1) (M.now old)
 
   -- It has failed, and has not settled. It never says that the name table is unsound.
   pub record FailsMount (fault : MountFault) : Type 0 where

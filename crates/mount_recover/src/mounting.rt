@@ -13,15 +13,18 @@ use crate::finding::{FoundVolume, find_volume};
 use crate::mending::mend;
 use fsd_sound::MountFault;
 use log_thirds::Log;
+use saved_map::SavedMap;
 use sector_disk::Machine;
 use std::alloc::Global;
 use volume_layout::Layout;
 
-/// A volume whose log was replayed, and whose anchors name a new epoch in which nothing is logged yet.
+/// A volume whose log was replayed, and whose anchors name a new epoch in which nothing is logged yet. It has the map that
+/// was saved in the epoch before, if that is believed.
 #[derive(Drop)]
 pub struct SettledVolume {
     pub layout: Layout,
     pub log: Log,
+    pub saved: Option<SavedMap>,
 }
 
 /// Finds the volume of an image with so many sectors, brings every page that its log has home, and begins its next
@@ -46,9 +49,10 @@ pub fn recover<M: Machine>(
         layout,
         mut log,
         longest,
+        saved,
     } = find_volume(alloc, m, sectors)?;
     complete(m, &log, longest)?;
     mend(m, &layout, &log)?;
     begin_epoch(m, &mut log)?;
-    Ok(SettledVolume { layout, log })
+    Ok(SettledVolume { layout, log, saved })
 }
