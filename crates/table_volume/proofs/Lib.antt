@@ -1,4 +1,5 @@
 pub mod AssembleLaws
+pub mod BelievedLaws
 pub mod CalmLaws
 mod DownLaws
 mod HealingLaws
@@ -13,7 +14,9 @@ pub mod HealsLaws
 pub mod KnownLaws
 mod LookedLaws
 pub mod MountLaws
+pub mod OpenedLaws
 pub mod RestLaws
+pub mod SavedTableLaws
 pub mod SettledLaws
 mod TableCallLaws
 pub mod UnbrokenLaws

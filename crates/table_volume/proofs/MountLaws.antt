@@ -34,13 +34,6 @@ use Rattle.volume_laws.proofs.FreeLaws.{nothing}
 use Rattle.cached_table.specs.declared.opening.Opened.{Opened}
 use Rattle.table_volume.proofs.AssembleLaws.{none_of_area, none_wait}
 
--- ---- results
-
--- what holds of what was opened holds of the volume with it
-pub opened_as : (Q : Opened → Type 0) (o : Opened) (r : Result VolumeValue MountFault) → Q o → IfOk r (λ v. opened_of v ≡ o) → IfOk r (λ v. Q (opened_of v))
-opened_as Q o (Ok v) holds is = subst Q (sym is) holds
-opened_as Q o (Err fault) holds is = tt
-
 -- ---- a new volume
 
 module _ (l : Layout) (log : LogValue) (v : VolumeValue) (a : IsAssembled l log v) where
