@@ -1,6 +1,6 @@
 -- A saved map that is believed: what a mount says by it, and what the pages tell.
-use Rattle.std.proofs.Common.{◌≡◌, ◌≢◌, ◌⊎◌, inl, inr, ℕ, ◌-◌, ◌<◌, ◌≤◌, Bool, true, false, ◌&&◌, nat_le, nat_lt, List, length, Option, Some, None, refl, sym, ap, subst, ◌∙◌, arith}
-use Rattle.std.specs.Prelude.{IfSome, slice_index_or}
+use Rattle.std.proofs.Common.{◌≡◌, ◌⊎◌, inl, inr, ℕ, ◌-◌, ◌<◌, ◌≤◌, Bool, true, false, ◌&&◌, nat_le, nat_lt, List, length, Option, Some, Ok, Err, refl, sym, ap, subst, ◌∙◌, arith}
+use Rattle.std.specs.Prelude.{IfErr, IfOk, IfSome, Result, slice_index_or}
 use Rattle.std.proofs.lemmas.Bool.{and_from, and_parts, cases_Bool, cases_lt, le-leb, le-ltb, leb-true, lt-ltb, ltb-true, true≢false}
 use Rattle.std.proofs.lemmas.Option.{same_Some}
 use Rattle.volume_layout.specs.declared.layout.Layout.{Layout}
@@ -18,6 +18,8 @@ use Rattle.fsd_formats.specs.SavedMap.{IsMapOf, MapCounts, is_set_in}
 use Rattle.fsd_files.specs.Disk.{Image}
 use Rattle.fsd_files.proofs.CountLaws.{contains_occurs, occurs_contains, runs_same}
 use Rattle.fsd_sound.specs.Saved.{AreSaved, IsBelieved, IsClosedAt, SavesPages, closed_at, map_of}
+use Rattle.fsd_sound.specs.declared.fault.MountFault.{MountFault}
+use Rattle.fsd_sound.specs.declared.fault.MountFault.TheVariants.{Memory}
 use Rattle.log_thirds.specs.LogValue.{LogValue}
 use Rattle.mount_recover.specs.Finding.{SeesNone}
 use Rattle.mount_recover.specs.Recover.{IsSettled}
@@ -30,7 +32,7 @@ use Rattle.cached_table.specs.Opening.{opened_by}
 use Rattle.volume_contract.specs.Mount.{BelievesNone, MountsSaved}
 use Rattle.volume_laws.specs.State.{spare_pages, state}
 use Rattle.volume_laws.specs.Volume.{VolumeValue}
-use Rattle.table_volume.specs.Mounting.{IsAssembled, assembled, opened_of}
+use Rattle.table_volume.specs.Mounting.{IsAssembled, OpensSaved, assembled, opened_of}
 use Rattle.table_volume.proofs.FreshLaws.{in_data}
 
 -- ---- sets of sectors and pages
@@ -137,6 +139,11 @@ module _ {D : Type 0} (M : Ghosts D) (l : Layout) (epoch : ℕ) (old new : D) (s
 
           flag_at : (page : ℕ) → page < l.pages → slice_index_or v.free_pages page false ≡ is_set_in b.sectors (home_a l page)
           flag_at page lt = ap (λ (xs : List Bool). slice_index_or xs page false) flags_are ∙ b.is.flags page lt
+
+-- with what is opened by a map the volume is made, or memory is refused
+pub opens_saved : (saved : SavedMap) (o : Opened) → o ≡ opened_by saved → (r : Result VolumeValue MountFault) → IfOk r (λ v. opened_of v ≡ o) → IfErr r (λ fault. fault ≡ Memory) → OpensSaved saved r
+opens_saved saved o by (Ok v) is memory = is ∙ by
+opens_saved saved o by (Err fault) is memory = memory
 
 -- ---- where none is believed
 

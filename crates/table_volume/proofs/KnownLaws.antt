@@ -16,15 +16,11 @@ use Rattle.cached_table.specs.Homes.{KnowsHomes}
 use Rattle.cached_table.specs.declared.opening.Opened.{Opened}
 use Rattle.cached_table.specs.Opening.{IsNoTable, IsTableOf, home_pages}
 use Rattle.cached_table.proofs.HomeReadLaws.{calm_knows}
-use Rattle.table_volume.specs.Mounting.{OpensKnown, OpensTable, opened_of}
+use Rattle.table_volume.specs.Mounting.{OpensKnown, opened_of}
 use Rattle.volume_laws.specs.Volume.{VolumeValue}
 
 module _ (l : Layout) (at : Moment) where
-  pub opens_table : {H : Type 0} (r : Result Opened MountFault) → IfOk r (λ o. H → KnowsHomes l at → IsTableOf l (home_pages l at.image) o) → IfErr r (λ fault. H → KnowsHomes l at → IsNoTable l (home_pages l at.image) fault) → H → KnowsHomes l at → OpensTable l at r
-  opens_table (Ok o) table none h knows = table h knows
-  opens_table (Err fault) table none h knows = none h knows
-
-  -- with it the volume is made, or memory is refused
+  -- with the table that is opened the volume is made, or memory is refused
   pub opens_known : (o : Opened) → IsTableOf l (home_pages l at.image) o → (r : Result VolumeValue MountFault) → IfOk r (λ v. opened_of v ≡ o) → IfErr r (λ fault. fault ≡ Memory) → OpensKnown l at r
   opens_known o table (Ok v) is memory = subst (IsTableOf l (home_pages l at.image)) (sym is) table
   opens_known o table (Err fault) is memory = subst (λ (f : MountFault). IsNoTable l (home_pages l at.image) f) (sym memory) tt

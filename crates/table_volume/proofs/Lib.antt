@@ -14,7 +14,6 @@ pub mod HealsLaws
 pub mod KnownLaws
 mod LookedLaws
 pub mod MountLaws
-pub mod OpenedLaws
 pub mod RestLaws
 pub mod SavedTableLaws
 pub mod SettledLaws

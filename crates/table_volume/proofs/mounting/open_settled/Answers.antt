@@ -1,7 +1,7 @@
 use Rattle.std.proofs.lemmas.Option.{IfSome_then}
 use Rattle.std.proofs.lemmas.Result.{err_from_is_err_and}
+use Rattle.table_volume.proofs.BelievedLaws.{opens_saved}
 use Rattle.table_volume.proofs.KnownLaws.{opens_known}
-use Rattle.table_volume.proofs.OpenedLaws.{opens_saved}
 use Rattle.table_volume.proofs.mounting.open_settled.Goals as goal
 
 pub returns-in_err-opened-clause-known : goal.returns-in_err-opened-clause-known
