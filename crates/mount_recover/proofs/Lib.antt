@@ -3,6 +3,7 @@ mod BeginningLaws
 mod CalmLaws
 mod CompletingLaws
 mod FaultLaws
+mod FoundMapLaws
 mod GivenLaws
 pub mod HomesLaws
 mod KeepsLaws

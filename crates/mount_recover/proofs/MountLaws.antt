@@ -1,11 +1,11 @@
 -- The calls of a mount, one after another.
-use Rattle.std.proofs.Common.{◌≡◌, inl, inr, ⊎_elim, ℕ, ◌+◌, ◌*◌, ◌<◌, ◌≤◌, Bool, ◌||◌, List, [], ◌∷◌, ◌++◌, length, Option, Some, None, Ok, refl, sym, ap, subst, ◌∙◌, arith}
+use Rattle.std.proofs.Common.{◌≡◌, inl, inr, ⊎_elim, ℕ, ◌+◌, ◌*◌, ◌<◌, ◌≤◌, Bool, ◌||◌, List, [], ◌∷◌, ◌++◌, length, Option, Some, None, refl, sym, ap, subst, ◌∙◌, arith}
 use Rattle.std.proofs.lemmas.Option.{same_Some}
 use Rattle.std.specs.Prelude.{IsTrue, IsSome, option_and_then, nat_le}
 use Rattle.std.specs.List.{AllByRecursion}
 use Rattle.std.proofs.lemmas.Bool.{cond-true, le-leb, and_parts, or_left, or_right}
 use Rattle.volume_layout.specs.declared.layout.Layout.{Layout}
-use Rattle.volume_layout.specs.Layout.{turned, IsPlanned}
+use Rattle.volume_layout.specs.Layout.{IsPlanned}
 use Rattle.volume_layout.specs.Root.{root_bytes, read_root}
 use Rattle.volume_layout.proofs.RootLaws.{planned_root_is_read}
 use Rattle.volume_layout.specs.Kinds.{gap_of}

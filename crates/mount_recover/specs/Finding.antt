@@ -1,5 +1,5 @@
 -- What a mount finds before it writes.
-use Rattle.std.specs.Prelude.{◌≡◌, ◌-◌, ◌<◌, ◌≤◌, ◌^◌, ⊤, ℕ, Ok, Option, Some, None, IsSome}
+use Rattle.std.specs.Prelude.{◌≡◌, ◌-◌, ◌<◌, ◌≤◌, ◌^◌, ⊤, ℕ, Option, Some, None, IsSome}
 use Rattle.volume_layout.specs.declared.layout.Layout.{Layout}
 use Rattle.volume_layout.specs.Kinds.{longest_of}
 use Rattle.volume_layout.specs.Layout.{IsPlanned}

@@ -1,5 +1,5 @@
 -- What a mount settles, and what it leaves.
-use Rattle.std.specs.Prelude.{◌≡◌, ⊤, ℕ, ◌+◌, ◌*◌, ◌≤◌, List, [], Ok, IfSome}
+use Rattle.std.specs.Prelude.{◌≡◌, ⊤, ℕ, ◌+◌, ◌*◌, ◌≤◌, List, [], IfSome}
 use Rattle.volume_layout.specs.declared.layout.Layout.{Layout}
 use Rattle.volume_layout.specs.Layout.{IsPlanned}
 use Rattle.fsd_formats.specs.declared.anchor.Anchor.{Anchor}

@@ -1,5 +1,5 @@
 -- What a mount tells up to its name table: where it has settled, where it has failed, and of an image that shows a volume.
-use Rattle.std.specs.Prelude.{◌≡◌, ◌+◌, ◌-◌, ◌<◌, ◌≤◌, ◌^◌, ℕ, List, Some, None, Ok, IfOk, IfSome, Result, MatchResult}
+use Rattle.std.specs.Prelude.{◌≡◌, ◌+◌, ◌-◌, ◌<◌, ◌≤◌, ◌^◌, ℕ, List, Some, None, IfOk, IfSome, Result, MatchResult}
 use Rattle.volume_layout.specs.declared.layout.Layout.{Layout}
 use Rattle.volume_layout.specs.Layout.{IsPlanned}
 use Rattle.fsd_formats.specs.declared.anchor.Anchor.{Anchor}

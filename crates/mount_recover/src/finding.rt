@@ -54,11 +54,7 @@ fn map_fault(fault: MapFault) -> MountFault
 }
 
 // Finds the root of an image with so many sectors, and its log.
-fn find_log<M: Machine>(
-    alloc: Global,
-    m: &mut M,
-    sectors: u32,
-) -> Result<FoundLog, MountFault>
+fn find_log<M: Machine>(alloc: Global, m: &mut M, sectors: u32) -> Result<FoundLog, MountFault>
     requires { sectors ≡ (M.report m.old).sectors }
 
     ensures reads { OnlyReads M.Machine (device_in device_of_mount result) m.old m.new }

@@ -1,4 +1,4 @@
-use Rattle.std.proofs.Common.{◌≡◌, Err, Some, ◌<◌, ◌≤◌, Ok, length, sym, ◌∙◌, arith}
+use Rattle.std.proofs.Common.{◌≡◌, Err, Some, ◌<◌, ◌≤◌, length, sym, ◌∙◌, arith}
 use Rattle.volume_layout.specs.Layout.{IsPlanned}
 use Rattle.volume_layout.proofs.RootLaws.{planned_bounds}
 use Rattle.sector_disk.proofs.CallLaws.{reads_then, reads_told}
@@ -6,7 +6,7 @@ use Rattle.fsd_files.specs.Disk.{first_whole}
 use Rattle.mount_recover.proofs.FaultLaws.{scan_sound, scan_told}
 use Rattle.mount_recover.proofs.RootLaws.{taken_before, taken_so}
 use Rattle.mount_recover.proofs.SeenLaws.{found_so, none_so, not_found_so, seen_now}
-use Rattle.mount_recover.proofs.finding.find_volume.Goals as goal
+use Rattle.mount_recover.proofs.finding.find_log.Goals as goal
 
 pub returns-in-Err-scan-clause-sound : goal.returns-in-Err-scan-clause-sound
 returns-in-Err-scan-clause-sound g c = scan_sound c.in-Err-scan.fault c.mount_fault.result c.mount_fault.ensures

@@ -1,4 +1,4 @@
-use Rattle.std.proofs.Common.{◌≡◌, ◌+◌, inl, inr, ℕ, ◌<◌, ◌≤◌, List, arith, refl, sym, ap, subst}
+use Rattle.std.proofs.Common.{◌≡◌, ◌+◌, ◌-◌, inl, inr, ℕ, ◌<◌, ◌≤◌, List, arith, refl, sym, ap, subst}
 use Rattle.std.proofs.lemmas.Result.{err_from_is_err_and}
 use Rattle.volume_layout.specs.declared.layout.Layout.{Layout}
 use Rattle.sector_disk.specs.declared.sector.WeakRun.{WeakRun}
@@ -9,6 +9,8 @@ use Rattle.log_thirds.specs.LogValue.{LogValue}
 use Rattle.fsd_sound.proofs.WritesLaws.{elsewhere}
 use Rattle.fsd_sound.specs.Lost.{AreCopiesOn}
 use Rattle.fsd_sound.specs.Sound.{IsSaid}
+use Rattle.saved_map.specs.Reading.{Believes}
+use Rattle.mount_recover.specs.Finding.{SeesNone}
 use Rattle.mount_recover.specs.Mending.{StaysOrSettles, IsCompleted, StaysShown}
 use Rattle.mount_recover.specs.Recover.{ShowsVolume}
 use Rattle.mount_recover.specs.Replay.{IsReplayed, IsUnturned, Replays, TurnsLast}
@@ -19,6 +21,7 @@ use Rattle.fsd_sound.specs.Shown.{records_by}
 use Rattle.mount_recover.proofs.CalmLaws.{calm_now, calm_two, knows_one, loses_shown, next_kept, next_settled, some_root, stand_shown, still_next, still_one}
 use Rattle.mount_recover.proofs.FaultLaws.{load_left, load_sound, worn_left}
 use Rattle.mount_recover.proofs.MountLaws.{wears_replays, not_found_excused, not_refused, device_refused, found_said, found_starts, is_seen, replays_from, stays_replays, begins_replays, lost_on, fresh, rest_kept, rest_left, mend_refused, none_found, none_shown}
+use Rattle.mount_recover.proofs.FoundMapLaws.{believed_later}
 use Rattle.mount_recover.proofs.HomesLaws.{both_settled}
 use Rattle.mount_recover.proofs.RootLaws.{run_bears}
 use Rattle.mount_recover.proofs.TurningLaws.{beginning_turns, completing_turns, next_present, stays_turns, still_unturned, worn_turns}
@@ -309,6 +312,7 @@ returns g c =
     let one_on : M.honest c.begin_epoch.new.m → M.honest c.find_volume.new.m = λ h. completed.disk.trust.honest (two_on h) in
     let settled = c.in_ok-begin_epoch.ensures in
     let epoch : c.begin_epoch.new.log.anchor.epoch ≡ found.log.anchor.epoch + 1 = ap (λ (log : LogValue). log.anchor.epoch) settled.past in
+    let before : found.log.anchor.epoch ≡ c.begin_epoch.new.log.anchor.epoch - 1 = omega (arith, epoch) in
     record {
       disk = heals_then (heals_then (heals_then (reads_as_heals was.reads) c.in_ok-complete.ensures.disk) c.in_ok-mend.ensures.mends.disk) settled.disk;
       settled = record {
@@ -360,6 +364,8 @@ returns g c =
             let still = calm_now two.windows (calm_two c.args.sectors found.layout found.log old one two calm wears is (completed.names (two_on h)).present next) in
             stand_shown c.args.sectors found.layout found.log old one two calm wears is laid three new a taken (c.in_ok-mend.ensures.shown (records_by found.layout one.image found.log.anchor) (three_on h) still laid.gives)
             (still_next two three keeps.windows still) (begun.turns h).rest;
+        believes = subst (λ (e : ℕ). IfSome found.saved (Believes M found.layout e c.args.m.now c.begin_epoch.new.m)) before (believed_later M found.layout found.log.anchor.epoch c.args.m.now c.find_volume.new.m c.begin_epoch.new.m one_on found.saved was.believes);
+        none = λ none h. subst (λ (e : ℕ). SeesNone found.layout e old) before (was.none none (one_on h));
       };
       failed = tt;
       shows = λ l windows choices h start. record {
