@@ -1,7 +1,7 @@
 -- A saved map that is believed: what a mount says by it, and what the pages tell.
-use Rattle.std.proofs.Common.{◌≡◌, ◌⊎◌, inl, inr, ℕ, ◌-◌, ◌<◌, ◌≤◌, Bool, true, false, ◌&&◌, nat_le, nat_lt, List, length, Option, Some, Ok, Err, refl, sym, ap, subst, ◌∙◌, arith}
+use Rattle.std.proofs.Common.{◌≡◌, ◌⊎◌, inl, inr, ℕ, ◌-◌, ◌<◌, Bool, true, false, ◌&&◌, nat_le, nat_lt, List, length, Option, Some, Ok, Err, sym, ap, subst, ◌∙◌, arith}
 use Rattle.std.specs.Prelude.{IfErr, IfOk, IfSome, Result, slice_index_or}
-use Rattle.std.proofs.lemmas.Bool.{and_from, and_parts, cases_Bool, cases_lt, le-leb, le-ltb, leb-true, lt-ltb, ltb-true, true≢false}
+use Rattle.std.proofs.lemmas.Bool.{and_parts, cases_Bool, cases_lt, le-ltb, leb-true, lt-ltb, ltb-true, true≢false}
 use Rattle.std.proofs.lemmas.Option.{same_Some}
 use Rattle.volume_layout.specs.declared.layout.Layout.{Layout}
 use Rattle.volume_layout.specs.Layout.{data_start, home_a, is_data, IsPlanned}
@@ -17,7 +17,7 @@ use Rattle.fsd_formats.specs.declared.anchor.Anchor.{Anchor}
 use Rattle.fsd_formats.specs.SavedMap.{IsMapOf, MapCounts, is_set_in}
 use Rattle.fsd_files.specs.Disk.{Image}
 use Rattle.fsd_files.proofs.CountLaws.{contains_occurs, occurs_contains, runs_same}
-use Rattle.fsd_sound.specs.Saved.{AreSaved, IsBelieved, IsClosedAt, SavesPages, closed_at, map_of}
+use Rattle.fsd_sound.specs.Saved.{AreSaved, IsBelieved, IsClosedAt, SavesPages, map_of}
 use Rattle.fsd_sound.specs.declared.fault.MountFault.{MountFault}
 use Rattle.fsd_sound.specs.declared.fault.MountFault.TheVariants.{Memory}
 use Rattle.log_thirds.specs.LogValue.{LogValue}
@@ -30,23 +30,19 @@ use Rattle.table_survey.proofs.DataLaws.{data_at, data_outside}
 use Rattle.cached_table.specs.declared.opening.Opened.{Opened}
 use Rattle.cached_table.specs.Opening.{opened_by}
 use Rattle.volume_contract.specs.Mount.{BelievesNone, MountsSaved}
-use Rattle.volume_laws.specs.State.{spare_pages, state}
+use Rattle.volume_laws.specs.State.{state}
 use Rattle.volume_laws.specs.Volume.{VolumeValue}
-use Rattle.table_volume.specs.Mounting.{IsAssembled, OpensSaved, assembled, opened_of}
+use Rattle.volume_laws.proofs.TakenLaws.{same_answer}
+use Rattle.table_volume.specs.Mounting.{IsAssembled, OpensSaved, opened_of}
 use Rattle.table_volume.proofs.FreshLaws.{in_data}
 
 -- ---- sets of sectors and pages
-
-same_truth : (a b : Bool) → (a ≡ true → b ≡ true) → (b ≡ true → a ≡ true) → a ≡ b
-same_truth true b to from = sym (to refl)
-same_truth false true to from = from refl
-same_truth false false to from = refl
 
 -- a list has the sectors of its runs
 sectors_of_runs : (xs : List ℕ) (s : ℕ) → contains (sectors_of (runs_of xs)) s ≡ contains xs s
 sectors_of_runs xs s =
     let same = runs_same s xs in
-    same_truth (contains (sectors_of (runs_of xs)) s) (contains xs s)
+    same_answer (contains (sectors_of (runs_of xs)) s) (contains xs s)
     (λ there. let some = contains_occurs s (sectors_of (runs_of xs)) there in occurs_contains s xs (omega (arith, some, same)))
     (λ there. let some = contains_occurs s xs there in occurs_contains s (sectors_of (runs_of xs)) (omega (arith, some, same)))
 

@@ -1,5 +1,5 @@
 -- The volume of a sound disk that is mounted by its saved map: it is that of the table that its pages are.
-use Rattle.std.proofs.Common.{◌≡◌, ℕ, ◌-◌, List, length, Option, Some, None, Ok, Err, refl, sym, ap, subst, ◌∙◌}
+use Rattle.std.proofs.Common.{◌≡◌, ℕ, ◌-◌, List, Option, Some, None, Ok, Err, refl, sym, subst, ◌∙◌}
 use Rattle.std.specs.Prelude.{IfSome, Result}
 use Rattle.std.proofs.lemmas.Option.{same_Some}
 use Rattle.volume_layout.specs.declared.layout.Layout.{Layout}
@@ -19,19 +19,18 @@ use Rattle.log_thirds.specs.LogValue.{LogValue}
 use Rattle.mount_recover.specs.Replay.{IsReplayed}
 use Rattle.saved_map.specs.declared.believing.SavedMap.{SavedMap}
 use Rattle.saved_map.specs.Reading.{Believes, IsOfMap}
-use Rattle.cached_table.specs.declared.opening.Opened.{Opened}
 use Rattle.cached_table.specs.Opening.{IsNoTable, IsTableOf, home_pages, opened_by}
 use Rattle.cached_table.proofs.SavedLaws.{saved_table}
 use Rattle.volume_contract.specs.Mount.{IsSoundAt}
 use Rattle.volume_laws.specs.Volume.{VolumeValue}
-use Rattle.table_volume.specs.Mounting.{OpensKnown, OpensSaved, opened_of}
+use Rattle.table_volume.specs.Mounting.{OpensKnown, OpensSaved}
 use Rattle.table_volume.proofs.BelievedLaws.{are_saved}
 use Rattle.table_volume.proofs.SettledLaws.{files_settled, later, one_size, pages_home}
 use Rattle.table_volume.proofs.UnbrokenLaws.{told_unbroken}
 
 module _ (sectors : ℕ) (l : Layout) (windows : List WeakRun) (h : List Change) (f : ℕ) (old : Moment) (begun : IsSoundAt sectors l windows h f old) (lists : TellsChoices l windows h f old.image)
     (log : LogValue) (mid : Moment) (done : IsReplayed l windows lists.choices log.anchor.epoch mid) (short : AreShort mid.windows) where
-  module _ (saved : SavedMap) (counts : MapCounts) (map : List (List ℕ)) (are : AreSaved l counts map done.after.pages) (of : IsOfMap l counts map saved) where
+  module _ (saved : SavedMap) (counts : MapCounts) (marked : List (List ℕ)) (are : AreSaved l counts marked done.after.pages) (of : IsOfMap l counts marked saved) where
     -- the sectors of the versions that the pages tell lie apart
     apart_saved : Apart l (plans_of are.telling.entries)
     apart_saved =
@@ -44,7 +43,7 @@ module _ (sectors : ℕ) (l : Layout) (windows : List WeakRun) (h : List Change)
     table_opened =
         let pages = done.after.pages in
         subst (λ (ps : List (List ℕ)). IsTableOf l ps (opened_by saved)) (sym (pages_home sectors l windows h f old begun lists log mid done short))
-        (saved_table l counts map pages are (one_size l (later sectors l windows h f old begun lists log mid done short) pages mid.image done.after.shows) (opened_by saved) apart_saved
+        (saved_table l counts marked pages are (one_size l (later sectors l windows h f old begun lists log mid done short) pages mid.image done.after.shows) (opened_by saved) apart_saved
         (told_unbroken l begun.planned pages are.telling are.told apart_saved) refl of.versions of.map of.pages of.flags)
 
     opens_table : (r : Result VolumeValue MountFault) → OpensSaved saved r → OpensKnown l mid r

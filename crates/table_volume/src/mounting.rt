@@ -70,12 +70,7 @@ pub(crate) fn open_settled<M: Machine>(
 }
 
 // The volume with what was opened; nothing waits.
-fn assemble(
-    alloc: Global,
-    layout: Layout,
-    log: Log,
-    opened: Opened,
-) -> Result<Volume, MountFault>
+fn assemble(alloc: Global, layout: Layout, log: Log, opened: Opened) -> Result<Volume, MountFault>
     requires planned { IsPlanned layout }
     requires log { IsFreshLog layout log }
     requires opened { IsOpened layout opened }
