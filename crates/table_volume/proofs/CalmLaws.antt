@@ -1,6 +1,6 @@
 -- A mount where nothing wears.
-use Rattle.std.proofs.Common.{◌≡◌, ℕ, ◌<◌, List, [], length, map, Option, Some, Result, Ok, Err, sym, ap, subst, ◌∙◌, arith}
-use Rattle.std.specs.Prelude.{IfOk, IsErrAnd, option_and_then}
+use Rattle.std.proofs.Common.{◌≡◌, inl, inr, ℕ, ◌-◌, ◌<◌, List, [], length, map, Option, Some, None, refl, Result, Ok, Err, sym, ap, subst, ◌∙◌, arith}
+use Rattle.std.specs.Prelude.{IfOk, IfSome, IsErrAnd, option_and_then}
 use Rattle.std.specs.Option.{unwrap_or}
 use Rattle.std.proofs.lemmas.List.{length-map}
 use Rattle.sector_disk.proofs.Wear.{worn_refl}
@@ -8,6 +8,7 @@ use Rattle.fsd_formats.specs.declared.entry.Entry.{Entry}
 use Rattle.fsd_table.specs.Breaks.{Breaks}
 use Rattle.volume_layout.specs.declared.layout.Layout.{Layout}
 use Rattle.volume_layout.specs.Layout.{IsPlanned}
+use Rattle.sector_disk.specs.declared.machine.Machine.{Ghosts}
 use Rattle.sector_disk.specs.Image.{IsCalm, open_damage}
 use Rattle.sector_disk.specs.Machine.{Moment}
 use Rattle.fsd_files.specs.Disk.{Image}
@@ -22,13 +23,16 @@ use Rattle.log_thirds.specs.LogValue.{LogValue}
 use Rattle.mount_recover.specs.Lost.{StandAsShown}
 use Rattle.mount_recover.specs.Recover.{IsNotUnsound, IsSettled}
 use Rattle.table_pages.specs.Kept.{images_given}
-use Rattle.volume_contract.specs.Mount.{MountsCalm, MountsShown, ShowsVolumePages}
+use Rattle.saved_map.specs.declared.believing.SavedMap.{SavedMap}
+use Rattle.saved_map.specs.Reading.{Believes}
+use Rattle.volume_contract.specs.Mount.{BelievesNone, MountsCalm, MountsShown, ShowsVolumePages}
 use Rattle.cached_table.specs.HomeLaws.{in_homes}
 use Rattle.cached_table.specs.Homes.{KnowsHomes, home_by}
-use Rattle.table_volume.specs.Mounting.{IsAssembled, OpensKnown, fresh_mounted, opened_of}
+use Rattle.table_volume.specs.Mounting.{IsAssembled, OpensKnown, OpensSaved, fresh_mounted, opened_of}
 use Rattle.cached_table.specs.Opening.{IsNoTable, IsTableOf, home_pages}
 use Rattle.volume_laws.specs.State.{IsMemoryOf, state}
 use Rattle.volume_laws.specs.Volume.{VolumeValue}
+use Rattle.table_volume.proofs.BelievedLaws.{mounts_saved}
 use Rattle.table_volume.proofs.FreshLaws.{fresh_fits, fresh_holds}
 use Rattle.volume_laws.proofs.ListLaws.{lists_of}
 
@@ -50,11 +54,11 @@ module _ (sectors : ℕ) (l : Layout) (log : LogValue) (i : Image) (at : Moment)
     pub shows : ShowsVolumePages sectors i l (home_pages l at.image)
     shows = record { anchor = is.anchor; found = is.found; shows = ap (option_and_then (shown_by l i)) is.found.anchor ∙ shown_pages }
 
-    no_table_shown : (fault : MountFault) → IsNoTable l (home_pages l at.image) fault → MountsCalm state IsMemoryOf sectors i (Err fault)
-    no_table_shown (Unsound s) fails = (l, home_pages l at.image, shows, fails)
-    no_table_shown (Device s) fails = tt
-    no_table_shown Memory fails = tt
-    no_table_shown other fails = absurd fails
+    no_table_shown : BelievesNone sectors i → (fault : MountFault) → IsNoTable l (home_pages l at.image) fault → MountsCalm state IsMemoryOf sectors i (Err fault)
+    no_table_shown none (Unsound s) fails = ((l, home_pages l at.image, shows, fails), none)
+    no_table_shown none (Device s) fails = tt
+    no_table_shown none Memory fails = tt
+    no_table_shown none other fails = absurd fails
 
     module _ (planned : IsPlanned l) where
       table_shown : (v : VolumeValue) → IsAssembled l log v → IsTableOf l (home_pages l at.image) (opened_of v) → MountsShown state IsMemoryOf sectors i v
@@ -73,10 +77,23 @@ module _ (sectors : ℕ) (l : Layout) (log : LogValue) (i : Image) (at : Moment)
             whole = subst (λ (k : Layout). (page : ℕ) → Breaks k pages page → ⊥) same t.whole;
           }
 
-module _ (sectors : ℕ) (l : Layout) (planned : IsPlanned l) (log : LogValue) (i : Image) (at : Moment) (is : IsSettled sectors i l log) (stand : StandAsShown l is.anchor i at.image) (calm : IsCalm at.windows) where
-  pub mounts_calm : (r : Result VolumeValue MountFault) → IfOk r (IsAssembled l log) → KnowsHomes l at → OpensKnown l at r → MountsCalm state IsMemoryOf sectors i r
-  mounts_calm (Ok v) a knows opens = table_shown sectors l log i at is stand knows calm planned v a opens
-  mounts_calm (Err fault) a knows opens = no_table_shown sectors l log i at is stand knows calm fault opens
+-- ---- by its pages, or by its saved map
+
+module _ (sectors : ℕ) (l : Layout) (planned : IsPlanned l) (log : LogValue) where
+  module _ (i : Image) (at : Moment) (is : IsSettled sectors i l log) (stand : StandAsShown l is.anchor i at.image) (calm : IsCalm at.windows) where
+    pub mounts_walked : BelievesNone sectors i → (r : Result VolumeValue MountFault) → IfOk r (IsAssembled l log) → KnowsHomes l at → OpensKnown l at r → MountsCalm state IsMemoryOf sectors i r
+    mounts_walked none (Ok v) a knows opens = inr (table_shown sectors l log i at is stand knows calm planned v a opens, none)
+    mounts_walked none (Err fault) a knows opens = no_table_shown sectors l log i at is stand knows calm none fault opens
+
+  module _ {D : Type 0} (M : Ghosts D) (old new : D) (honest : M.honest new) (is : IsSettled sectors (M.now old).image l log) where
+    pub mounts_believed : (saved : SavedMap) → Believes M l (log.anchor.epoch - 1) old new saved → (r : Result VolumeValue MountFault) → IfOk r (IsAssembled l log) → OpensSaved saved r → MountsCalm state IsMemoryOf sectors (M.now old).image r
+    mounts_believed saved b (Ok v) a opened = inl (mounts_saved M l (log.anchor.epoch - 1) old new saved b honest sectors planned log is refl v a opened)
+    mounts_believed saved b (Err fault) a memory = subst (λ (f : MountFault). MountsCalm state IsMemoryOf sectors (M.now old).image (Err f)) (sym memory) tt
+
+    pub mounts_calm : (saved : Option SavedMap) → IfSome saved (Believes M l (log.anchor.epoch - 1) old new) → (r : Result VolumeValue MountFault) → IfOk r (IsAssembled l log) → IfSome saved (λ x. OpensSaved x r)
+        → (saved ≡ None → MountsCalm state IsMemoryOf sectors (M.now old).image r) → MountsCalm state IsMemoryOf sectors (M.now old).image r
+    mounts_calm (Some saved) b r a opened walked = mounts_believed saved b r a opened
+    mounts_calm None b r a opened walked = walked refl
 
 -- ---- what fails before
 

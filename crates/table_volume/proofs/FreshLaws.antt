@@ -36,7 +36,7 @@ not_free : (inside taken : Bool) → inside ≡ false → (inside && not taken &
 not_free false taken e = refl
 not_free true taken e = absurd (cc e)
 
-in_data : (l : Layout) (s : ℕ) → data_start l ≤ s → s < l.sectors → is_data l s ≡ true
+pub in_data : (l : Layout) (s : ℕ) → data_start l ≤ s → s < l.sectors → is_data l s ≡ true
 in_data l s low high = and_from (nat_le (data_start l) s) (nat_lt s l.sectors) (le-leb (data_start l) s low) (lt-ltb s l.sectors high)
 
 -- ---- the volume

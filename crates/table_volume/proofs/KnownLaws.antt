@@ -11,16 +11,19 @@ use Rattle.sector_disk.proofs.Calm.{calm_nowhere}
 use Rattle.fsd_files.specs.Disk.{bytes_at, first_whole}
 use Rattle.fsd_sound.specs.Homes.{HasBothHomes, HasSome, home_of}
 use Rattle.fsd_sound.specs.declared.fault.MountFault.{MountFault}
+use Rattle.fsd_sound.specs.declared.fault.MountFault.TheVariants.{Memory}
 use Rattle.cached_table.specs.Homes.{KnowsHomes}
+use Rattle.cached_table.specs.declared.opening.Opened.{Opened}
 use Rattle.cached_table.specs.Opening.{IsNoTable, IsTableOf, home_pages}
 use Rattle.cached_table.proofs.HomeReadLaws.{calm_knows}
 use Rattle.table_volume.specs.Mounting.{OpensKnown, opened_of}
 use Rattle.volume_laws.specs.Volume.{VolumeValue}
 
 module _ (l : Layout) (at : Moment) where
-  pub opens_known : (r : Result VolumeValue MountFault) → IfOk r (λ v. KnowsHomes l at → IsTableOf l (home_pages l at.image) (opened_of v)) → IfErr r (λ fault. KnowsHomes l at → IsNoTable l (home_pages l at.image) fault) → KnowsHomes l at → OpensKnown l at r
-  opens_known (Ok v) table none knows = table knows
-  opens_known (Err fault) table none knows = none knows
+  -- with the table that is opened the volume is made, or memory is refused
+  pub opens_known : (o : Opened) → IsTableOf l (home_pages l at.image) o → (r : Result VolumeValue MountFault) → IfOk r (λ v. opened_of v ≡ o) → IfErr r (λ fault. fault ≡ Memory) → OpensKnown l at r
+  opens_known o table (Ok v) is memory = subst (IsTableOf l (home_pages l at.image)) (sym is) table
+  opens_known o table (Err fault) is memory = subst (λ (f : MountFault). IsNoTable l (home_pages l at.image) f) (sym memory) tt
 
   -- where nothing wears each home that stands is whole
   module _ (calm : IsCalm at.windows) where

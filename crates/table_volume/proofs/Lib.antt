@@ -1,4 +1,5 @@
 pub mod AssembleLaws
+pub mod BelievedLaws
 pub mod CalmLaws
 mod DownLaws
 mod HealingLaws
@@ -14,6 +15,7 @@ pub mod KnownLaws
 mod LookedLaws
 pub mod MountLaws
 pub mod RestLaws
+pub mod SavedTableLaws
 pub mod SettledLaws
 mod TableCallLaws
 pub mod UnbrokenLaws

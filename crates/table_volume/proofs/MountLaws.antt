@@ -1,6 +1,6 @@
 -- What a mount answers.
-use Rattle.std.proofs.Common.{◌≡◌, inl, inr, ℕ, ◌^◌, ◌<◌, ◌≤◌, false, not, ◌||◌, ◌&&◌, List, [], length, replicate, Some, None, Result, Ok, Err, refl, sym, ap, subst, ◌∙◌, arith}
-use Rattle.std.specs.Prelude.{IfOk, IfSome, ◌==◌}
+use Rattle.std.proofs.Common.{◌≡◌, inl, inr, ℕ, ◌^◌, ◌<◌, ◌≤◌, false, not, ◌||◌, ◌&&◌, List, [], length, replicate, Some, None, refl, sym, ap, subst, ◌∙◌, arith}
+use Rattle.std.specs.Prelude.{IfSome, ◌==◌}
 use Rattle.std.proofs.Math.Bool.{or-false}
 use Rattle.std.proofs.lemmas.List.{ext_get_or, get_or-replicate, length-replicate}
 use Rattle.volume_layout.specs.declared.layout.Layout.{Layout}
@@ -31,15 +31,7 @@ use Rattle.cached_table.specs.Opening.{IsOpenFault}
 use Rattle.volume_laws.specs.State.{freed_sectors, state}
 use Rattle.volume_laws.specs.Volume.{VolumeValue}
 use Rattle.volume_laws.proofs.FreeLaws.{nothing}
-use Rattle.cached_table.specs.declared.opening.Opened.{Opened}
 use Rattle.table_volume.proofs.AssembleLaws.{none_of_area, none_wait}
-
--- ---- results
-
--- what holds of what was opened holds of the volume with it
-pub opened_as : (Q : Opened → Type 0) (o : Opened) (r : Result VolumeValue MountFault) → Q o → IfOk r (λ v. opened_of v ≡ o) → IfOk r (λ v. Q (opened_of v))
-opened_as Q o (Ok v) holds is = subst Q (sym is) holds
-opened_as Q o (Err fault) holds is = tt
 
 -- ---- a new volume
 

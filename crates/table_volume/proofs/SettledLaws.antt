@@ -68,7 +68,7 @@ shown_size l i pages e = by (anchor_of i) e
     by None e = absurd (cc e)
     by (Some a) e = each_size _ (all_pages l) pages e ∙ length-range_with_len 0 l.pages
 
-one_size : (l : Layout) (windows : List WeakRun) (pages : List (List ℕ)) (i : Image) → ShowsPages l windows (pages ∷ []) i → length pages ≡ l.pages
+pub one_size : (l : Layout) (windows : List WeakRun) (pages : List (List ℕ)) (i : Image) → ShowsPages l windows (pages ∷ []) i → length pages ≡ l.pages
 one_size l windows pages i shows = by (shown l i) refl (shows.shows i (worn_refl (weak_of windows) i))
   where
     by : (o : Option (List (List ℕ))) → shown l i ≡ o → ShowsOne (pages ∷ []) o → length pages ≡ l.pages

@@ -1,7 +1,7 @@
 -- What breaks a name table that reads alike at home however it wears.
-use Rattle.std.proofs.Common.{◌≡◌, ℕ, ◌+◌, ◌<◌, List, [], Option, Some, Ok, Err, sym, ap, subst, ◌∙◌, arith}
+use Rattle.std.proofs.Common.{◌≡◌, ℕ, ◌+◌, ◌<◌, List, [], Option, Some, None, Ok, Err, refl, sym, ap, subst, ◌∙◌, arith}
 use Rattle.std.proofs.lemmas.Option.{same_Some}
-use Rattle.std.specs.Prelude.{IfErr, Result, get_or}
+use Rattle.std.specs.Prelude.{IfErr, IfSome, Result, get_or}
 use Rattle.std.specs.Option.{unwrap_or}
 use Rattle.volume_layout.specs.declared.layout.Layout.{Layout}
 use Rattle.sector_disk.specs.Image.{IsWorn, Windows, open_damage}
@@ -19,7 +19,8 @@ use Rattle.fsd_table.specs.Breaks.{BreaksAt}
 use Rattle.volume_contract.specs.Mount.{ReadAlike, UnsoundFor}
 use Rattle.cached_table.specs.HomeLaws.{in_homes}
 use Rattle.cached_table.specs.Homes.{KnowsHomes, home_by}
-use Rattle.table_volume.specs.Mounting.{OpensKnown}
+use Rattle.saved_map.specs.declared.believing.SavedMap.{SavedMap}
+use Rattle.table_volume.specs.Mounting.{OpensKnown, OpensSaved}
 use Rattle.cached_table.specs.Opening.{home_pages}
 use Rattle.volume_laws.specs.Volume.{VolumeValue}
 
@@ -59,9 +60,19 @@ module _ (sectors : ℕ) (l : Layout) (old mid new : Moment) (root : HasRoot sec
   }
   unsound_at other opens = tt
 
-  pub opens_unsound : (r : Result VolumeValue MountFault) → (KnowsHomes l mid → OpensKnown l mid r) → IfErr r (UnsoundFor sectors old new)
-  opens_unsound (Ok v) opens = tt
-  opens_unsound (Err fault) opens = unsound_at fault opens
+  walk_unsound : (r : Result VolumeValue MountFault) → (KnowsHomes l mid → OpensKnown l mid r) → IfErr r (UnsoundFor sectors old new)
+  walk_unsound (Ok v) opens = tt
+  walk_unsound (Err fault) opens = unsound_at fault opens
+
+-- by a saved map no table is found to be unsound
+unsound_saved : (sectors : ℕ) (old new : Moment) (saved : SavedMap) (r : Result VolumeValue MountFault) → OpensSaved saved r → IfErr r (UnsoundFor sectors old new)
+unsound_saved sectors old new saved (Ok v) opens = tt
+unsound_saved sectors old new saved (Err fault) memory = subst (UnsoundFor sectors old new) (sym memory) tt
+
+pub opens_unsound : (sectors : ℕ) (l : Layout) (old mid new : Moment) → HasRoot sectors old.image l → Wears mid new → (saved : Option SavedMap) (r : Result VolumeValue MountFault) → (saved ≡ None → KnowsHomes l mid → OpensKnown l mid r) → IfSome saved (λ x. OpensSaved x r)
+    → IfErr r (UnsoundFor sectors old new)
+opens_unsound sectors l old mid new root wears (Some saved) r walked opens = unsound_saved sectors old new saved r opens
+opens_unsound sectors l old mid new root wears None r walked opens = walk_unsound sectors l old mid new root wears r (walked refl)
 
 -- it fails for something else
 pub none_unsound : (sectors : ℕ) (old new : Moment) (fault : MountFault) → IsNotUnsound fault → UnsoundFor sectors old new fault

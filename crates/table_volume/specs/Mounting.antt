@@ -6,12 +6,14 @@ use Rattle.sector_set.specs.Area.{Area, area}
 use Rattle.shadow_frees.specs.Waits.{Waits}
 use Rattle.sector_disk.specs.Machine.{Moment}
 use Rattle.fsd_sound.specs.declared.fault.MountFault.{MountFault}
+use Rattle.fsd_sound.specs.declared.fault.MountFault.TheVariants.{Memory}
 use Rattle.fsd_files.specs.Files.{Files}
 use Rattle.fsd_sound.specs.Mounted.{Mounted}
 use Rattle.fsd_table.specs.Table.{Telling}
 use Rattle.log_thirds.specs.LogValue.{FitsLayout, LogValue}
 use Rattle.mount_recover.specs.Recover.{IsFreshLog}
-use Rattle.cached_table.specs.Opening.{IsNoTable, IsOpened, IsTableOf, home_pages}
+use Rattle.saved_map.specs.declared.believing.SavedMap.{SavedMap}
+use Rattle.cached_table.specs.Opening.{IsNoTable, IsOpened, IsTableOf, home_pages, opened_by}
 use Rattle.volume_laws.specs.Volume.{VolumeValue}
 use Rattle.cached_table.specs.declared.opening.Opened.{Opened}
 
@@ -63,10 +65,25 @@ fresh_mounted l log pages telling files = record {
 abbrev pub opened_of : VolumeValue → Opened
 opened_of v = record { cache = v.cache; free_pages = v.free_pages; map = v.map; versions = v.versions }
 
--- where the pages at home are known: they are a table, or no table
+-- what is opened where the pages at home are known: they are a table, or no table
+abbrev pub OpensTable : Layout → Moment → Result Opened MountFault → Type 0
+OpensTable l at (Ok o) = IsTableOf l (home_pages l at.image) o
+OpensTable l at (Err fault) = IsNoTable l (home_pages l at.image) fault
+
+-- so it is of a volume
 abbrev pub OpensKnown : Layout → Moment → Result VolumeValue MountFault → Type 0
 OpensKnown l at (Ok v) = IsTableOf l (home_pages l at.image) (opened_of v)
 OpensKnown l at (Err fault) = IsNoTable l (home_pages l at.image) fault
+
+-- what is opened by a saved map; only memory may be refused
+abbrev pub OpensBy : SavedMap → Result Opened MountFault → Type 0
+OpensBy saved (Ok o) = o ≡ opened_by saved
+OpensBy saved (Err fault) = fault ≡ Memory
+
+-- so it is of a volume
+abbrev pub OpensSaved : SavedMap → Result VolumeValue MountFault → Type 0
+OpensSaved saved (Ok v) = opened_of v ≡ opened_by saved
+OpensSaved saved (Err fault) = fault ≡ Memory
 
 -- The volume of this layout and this log, in which nothing is logged yet, with what was opened.
 pub record IsAssembled (l : Layout) (log : LogValue) (v : VolumeValue) : Type 0 where

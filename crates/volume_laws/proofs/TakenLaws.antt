@@ -42,7 +42,7 @@ use Rattle.volume_laws.proofs.SpaceLaws.{waits_within}
 -- ---- each sector of a list
 
 -- two answers that hold together
-same_answer : (a b : Bool) → (a ≡ true → b ≡ true) → (b ≡ true → a ≡ true) → a ≡ b
+pub same_answer : (a b : Bool) → (a ≡ true → b ≡ true) → (b ≡ true → a ≡ true) → a ≡ b
 same_answer true b on back = sym (on refl)
 same_answer false true on back = back refl
 same_answer false false on back = refl

@@ -1,5 +1,6 @@
-use Rattle.std.proofs.Common.{◌≡◌, ◌≤◌, inl, inr, subst, arith}
-use Rattle.std.specs.Prelude.{IfOk}
+use Rattle.std.proofs.Common.{◌≡◌, ◌-◌, ◌≤◌, None, inl, inr, subst, arith}
+use Rattle.std.specs.Prelude.{IfOk, IfSome}
+use Rattle.std.proofs.lemmas.Option.{IfSome_then}
 use Rattle.std.proofs.lemmas.Result.{IfErr-weaker, IfOk-weaker, err_from_is_err_and}
 use Rattle.volume_layout.specs.declared.layout.Layout.{Layout}
 use Rattle.sector_disk.proofs.CallLaws.{heals_then, reads_as_heals}
@@ -13,13 +14,16 @@ use Rattle.cached_table.specs.Homes.{KnowsHomes}
 use Rattle.table_volume.specs.Mounting.{IsAssembled, OpensKnown}
 use Rattle.cached_table.specs.Opening.{IsOpenFault}
 use Rattle.volume_laws.specs.State.{state}
-use Rattle.table_volume.proofs.CalmLaws.{calm_handed, fails_calm, mounts_calm}
+use Rattle.saved_map.specs.Reading.{Believes}
+use Rattle.table_volume.proofs.BelievedLaws.{none_believed, saved_is}
+use Rattle.table_volume.proofs.CalmLaws.{calm_handed, fails_calm, mounts_calm, mounts_walked}
 use Rattle.table_volume.proofs.EndsLaws.{ReadsSynced, ends_before, ends_settled, knows}
 use Rattle.volume_laws.proofs.MomentLaws.{lists_now, said_at, said_lists, shows_now}
 use Rattle.table_volume.proofs.HealsLaws.{anchors_read, homes_read}
 use Rattle.table_volume.proofs.KnownLaws.{stand_known}
 use Rattle.table_volume.proofs.MountLaws.{found_open, home_lost, keeps_early, keeps_open, opens_new, refused_early, refused_open, settled_in}
 use Rattle.table_volume.proofs.RestLaws.{counts_mount, rest_read}
+use Rattle.table_volume.proofs.SavedTableLaws.{opens_sound}
 use Rattle.table_volume.proofs.UnsoundLaws.{none_unsound, opens_unsound}
 use Rattle.table_volume.proofs.files.VolumeFiles.mount.Goals as goal
 
@@ -72,7 +76,7 @@ returns-clause-tells g c honest =
       refused = IfErr-weaker r IsOpenFault (λ fault. IsRefused s fault old) (λ fault cause. refused_open s l log old mid c.in_ok-settled.ensures.settled.epoch is fault cause) opens.cause;
       unchanged = IfErr-weaker r IsOpenFault (λ fault. KeepsAll fault old new) (λ fault cause. keeps_open old new fault cause) opens.cause;
       lost = IfErr-weaker r (λ fault. M.honest c.open_settled.new.m → LostIn (AreHomes l) new.image fault) (λ fault. LostIn (AreCopiesOn s old) new.image fault) (λ fault lost. home_lost s l log old mid new.image root is fault (lost honest)) opens.lost;
-      unsound = opens_unsound s l old mid new root worn r (c.open_settled.ensures.known honest);
+      unsound = opens_unsound s l old mid new root worn c.in_ok-settled.settled.saved r (λ none. opens.known none honest) opens.by;
     }
 
 pub returns-in_err-settled-clause-heals : goal.returns-in_err-settled-clause-heals
@@ -104,15 +108,24 @@ returns-in_err-settled-clause-calm g c honest calm calm_new =
 pub returns-clause-calm : goal.returns-clause-calm
 returns-clause-calm g c honest calm calm_new =
     let M = g.M.Machine in
+    let sectors = c.args.sectors in
     let settled = c.in_ok-settled.settled in
+    let opens = c.open_settled.ensures in
+    let told = c.in_ok-settled.ensures.settled in
     let old = M.now c.args.m.now in let mid = M.now c.recover.new.m in let new = M.now c.open_settled.new.m in
-    let back = c.open_settled.ensures.reads.trust.honest honest in
-    let worn = c.open_settled.ensures.reads.worn honest in
+    let back = opens.reads.trust.honest honest in
+    let worn = opens.reads.worn honest in
     let calm_mid = same_calm mid.windows new.windows worn.windows calm_new in
-    let is = settled_in c.args.sectors settled.layout settled.log old mid calm (c.in_ok-settled.ensures.settled.found back) in
-    let knows = stand_known settled.layout mid calm_mid (c.in_ok-settled.ensures.settled.homes back) in
-    mounts_calm c.args.sectors settled.layout c.in_ok-settled.ensures.settled.planned settled.log old.image mid is (c.in_ok-settled.ensures.settled.shown is.anchor back calm calm_mid is.found.anchor) calm_mid
-    c.open_settled.result c.open_settled.ensures.assembled knows (c.open_settled.ensures.known honest knows)
+    let is = settled_in sectors settled.layout settled.log old mid calm (told.found back) in
+    let knows = stand_known settled.layout mid calm_mid (told.homes back) in
+    mounts_calm sectors settled.layout told.planned settled.log M c.args.m.now c.recover.new.m back is settled.saved told.believes c.open_settled.result opens.assembled opens.by
+    (λ none. mounts_walked sectors settled.layout told.planned settled.log old.image mid is (told.shown is.anchor back calm calm_mid is.found.anchor) calm_mid
+    (none_believed sectors settled.layout settled.log old calm is (told.none none back)) c.open_settled.result opens.assembled knows (opens.known none honest knows))
+
+pub open_settled-requires-clause-saved : goal.open_settled-requires-clause-saved
+open_settled-requires-clause-saved g c =
+    let settled = c.in_ok-settled.settled in
+    IfSome_then settled.saved c.in_ok-settled.ensures.settled.believes (λ saved b. saved_is g.M.Machine settled.layout (settled.log.anchor.epoch - 1) c.args.m.now c.recover.new.m saved b)
 
 -- by the layout that the image says and the mount has taken
 pub returns-in_err-settled-clause-sound : goal.returns-in_err-settled-clause-sound
@@ -148,7 +161,10 @@ returns-clause-sound g c honest l windows h f begun =
     let lists_k = said_lists l old.image k by.said windows h f lists in
     let same : settled.layout ≡ k = by.took in
     let done = subst (λ (x : Layout). IsReplayed x windows lists.choices settled.log.anchor.epoch mid) same recovers.ends in
-    let known = subst (λ (x : Layout). KnowsHomes x mid → OpensKnown x mid c.open_settled.result) same (c.open_settled.ensures.known honest) in
+    let saved = settled.saved in
+    let walked = subst (λ (x : Layout). saved ≡ None → KnowsHomes x mid → OpensKnown x mid c.open_settled.result) same (λ none. c.open_settled.ensures.known none honest) in
+    let believes = subst (λ (x : Layout). IfSome saved (Believes M x (settled.log.anchor.epoch - 1) c.args.m.now c.recover.new.m)) same c.in_ok-settled.ensures.settled.believes in
+    let at_home = knows s k windows h f old begun_k lists_k M c.args.m.now c.recover.new.m c.open_settled.new.m settled.log mid new done short by.exit in
     let reads = c.open_settled.ensures.reads.any_moment honest in
     let at_mid : M.moment c.recover.new.m ≤ M.moment c.recover.new.m = omega arith in
     let times : ReadsSynced M c.recover.new.m c.open_settled.new.m mid new = record {
@@ -167,6 +183,6 @@ returns-clause-sound g c honest l windows h f begun =
           by.moments (c.recover.ensures.shows l windows lists.choices back shows).turns times
           (subst (λ (x : Layout). IsFreshLog x settled.log) same c.in_ok-settled.ensures.settled.fresh) (subst (λ (x : Layout). IsSettledIn s x settled.log old mid) same (c.in_ok-settled.ensures.settled.found back)) c.in_ok-settled.ensures.settled.epoch
           (c.open_settled.ensures.reads.worn honest) c.open_settled.result (subst (λ (x : Layout). IfOk c.open_settled.result (IsAssembled x settled.log)) same c.open_settled.ensures.assembled)
-          (known (knows s k windows h f old begun_k lists_k M c.args.m.now c.recover.new.m c.open_settled.new.m settled.log mid new done short by.exit))
+          (opens_sound s k windows h f M c.args.m.now c.recover.new.m begun_k lists_k settled.log mid done short back saved believes c.open_settled.result c.open_settled.ensures.by (λ none. walked none at_home))
           (named_on (M.left_since c.recover.new.m) (M.left_since c.open_settled.new.m) (M.moment c.args.m.now) (M.moment c.recover.new.m) mid.windows.present (c.recover.ensures.disk.later back) (c.open_settled.ensures.reads.since honest) (c.in_ok-settled.ensures.settled.named back))),
     )
