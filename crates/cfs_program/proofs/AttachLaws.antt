@@ -48,9 +48,9 @@ pub record RunsFound {D : Type 0} (M : Ghosts D) (path : List ℕ) (sectors : �
 -- an attach writes nothing
 mounting_asked : (path : List ℕ) (l m n : Ledger) (layout : Layout) (healed : ℕ) → m ≡ asked_for l path Old → WritesMounting layout m n healed → WritesMounting layout l n healed
 mounting_asked path l m n layout healed asked writes = record {
-  mounting = writes.mounting;
-  most = writes.most;
-  written = record { healed = writes.written.healed; tells = writes.written.tells; written = writes.written.written ∙ ap (λ (k : Ledger). k.written + (writes.mounting + writes.written.healed)) asked };
+  others = writes.others;
+  few = writes.few;
+  written = record { healed = writes.written.healed; tells = writes.written.tells; written = writes.written.written ∙ ap (λ (k : Ledger). k.written + (writes.others + writes.written.healed)) asked };
 }
 
 module _ {D : Type 0} {M : Ghosts D} {path : List ℕ} {sectors : ℕ} {a b z : D} (x : RunsFound M path sectors a b z) where

@@ -2,7 +2,7 @@
 use Rattle.std.proofs.Common.{◌≡◌, inl, inr, ℕ, Bool, true, false, cond, List, [], ◌∷◌, ◌++◌, length, Option, Some, None, refl, sym, ◌∙◌, ap, subst, arith}
 use Rattle.std.specs.Prelude.{◌<◌, ◌≤◌, ◌||◌, IfErr, IfOk, OnOk, IsFalse, IsTrue, Result, Ok, Err, is_none, nat_le, nat_lt, option_map}
 use Rattle.std.specs.List.{AllByRecursion}
-use Rattle.std.proofs.lemmas.Bool.{and_parts, ltb-true}
+use Rattle.std.proofs.lemmas.Bool.{and_parts, ltb-true, or_parts}
 use Rattle.volume_layout.specs.declared.layout.Layout.{Layout}
 use Rattle.volume_layout.specs.Layout.{data_start, is_data}
 use Rattle.run_table.specs.RunTable.{total}
@@ -18,30 +18,33 @@ use Rattle.fsd_files.specs.Answers.{keep_given, least_pages, size_fault}
 use Rattle.fsd_files.specs.Disk.{Image, Sectors, Touches, nowhere}
 use Rattle.fsd_files.specs.declared.reply.Reply.{Reply}
 use Rattle.fsd_files.specs.declared.reply.Reply.TheVariants as Said
-use Rattle.fsd_sound.specs.Writes.{MountKeeps, force_writes}
+use Rattle.fsd_sound.specs.Writes.{MountKeeps, force_writes, saving_writes}
 use Rattle.fsd_texts.specs.declared.command.Command.{Command}
 use Rattle.fsd_texts.specs.declared.command.Command.TheVariants as Word
 use Rattle.fsd_texts.specs.declared.fault.Fault.{Fault}
 use Rattle.fsd_texts.specs.declared.fault.Fault.TheVariants as Ends
 use Rattle.fsd_texts.specs.Text.{fault_text}
 use Rattle.fsd_runs.specs.Commands.{reply_alone, reply_status}
+use Rattle.volume_contract.specs.Closing.{may_close}
 use Rattle.volume_contract.specs.Mount.{IsFound}
-use Rattle.volume_contract.specs.Order.{Asks, Comes, Data, Force, IsData, IsDeviceIn, IsFetch, IsLookUp, IsLoss, LookUp, StepRefuses, CallStep, Test, down, force_steps, is_idle, is_root, no_place_in, place, runs_at, worn}
+use Rattle.volume_contract.specs.Order.{Asks, Comes, Data, Force, IsData, IsDeviceIn, IsFetch, IsLookUp, IsLoss, LookUp, StepRefuses, CallStep, Test, down, no_place_in, place, runs_at, worn}
 use Rattle.volume_contract.specs.State.{Ages, State, in_place, is_worn, place_in, put_writes}
-use Rattle.scrub.specs.Scrub.{scrub_writes}
+use Rattle.scrub.specs.Looking.{AreDamaged}
 use Rattle.scrub.specs.Telling.{AreOfPage}
 use Rattle.scrub.proofs.LeadLaws.{touches_then, worn_touches}
 use Rattle.volume_turns.specs.declared.turns.Halt.{Halt}
 use Rattle.volume_turns.specs.declared.turns.Halt.TheVariants.{Fault as Stopped, Output}
 use Rattle.volume_turns.specs.Answering.{MayAnswer, AnswersAlone, ClosesBy, EndsOne, RunsOne, SaysBy, SaysNoReply, SaysOne, SaysReply}
-use Rattle.volume_turns.specs.Commands.{HasDamaged, KeepsState, LacksRoom, MayLose, MayReply, TouchesBy, WritesBehind, WritesForce}
+use Rattle.volume_turns.specs.Causes.{HasVolume}
+use Rattle.volume_turns.specs.Commands.{Because, HasDamaged, KeepsState, LacksRoom, MayLose, MayReply, TouchesAlone, TouchesBy, WritesBehind, may_write}
 use Rattle.volume_turns.specs.Once.{unit_of}
 use Rattle.volume_turns.specs.Line.{EndsWith}
 use Rattle.volume_turns.specs.Steps.{IsToldOn, ended_by, read_ended_by}
 use Rattle.volume_turns.specs.Syncs.{SyncsOnce}
 use Rattle.volume_turns.specs.Turns.{KeepsSaid, SaysAll, Unsaid}
-use Rattle.volume_turns.proofs.LongerLaws.{longer_then, then_worn, touched_worn, worn_longer}
+use Rattle.volume_turns.proofs.LongerLaws.{in_then, in_worn, then_worn}
 use Rattle.volume_turns.proofs.OrderLaws.{edit_rest, few_best, keep_small, load_rest, make_rest, move_rest, put_rest, sizeless, starts_up, steps_of, table_rest}
+use Rattle.volume_turns.proofs.SavingLaws.{clean_out, close_out, data_out}
 use Rattle.volume_turns.proofs.StatusLaws.{look_up_ends, loss_looks}
 use Rattle.volume_turns.proofs.ToldLaws.{told_may}
 
@@ -53,8 +56,12 @@ worn_first a b c windows worn then = touches_then nowhere nowhere nowhere a b c 
 pub touches_ages : (a b : Moment) → b.windows ≡ a.windows → Touches nowhere a b → Ages a b
 touches_ages a b windows t = record { image = record { size = t.size; each = λ s. t.others s refl }; windows = windows }
 
+-- where a call doesn't write
+damaged_on : (may : Sectors) (a b : Moment) (s : ℕ) → Touches may a b → IsFalse (may s) → HasDamaged a.image s → HasDamaged b.image s
+damaged_on may a b s t out (within, gone) = (omega (arith, within, t.size), elim (t.others s out) [ inl same ↦ same ∙ gone | inr worn ↦ worn.1 ])
+
 pub stays_damaged : (a b : Moment) (s : ℕ) → Touches nowhere a b → HasDamaged a.image s → HasDamaged b.image s
-stays_damaged a b s t (within, gone) = (omega (arith, within, t.size), elim (t.others s refl) [ inl same ↦ same ∙ gone | inr worn ↦ worn.1 ])
+stays_damaged a b s t was = damaged_on nowhere a b s t refl was
 
 stay_damaged : (a b : Moment) → Touches nowhere a b → (found : List (Key × ℕ)) → AllByRecursion (λ x. HasDamaged a.image x.1) found → AllByRecursion (λ x. HasDamaged b.image x.1) found
 stay_damaged a b t [] damaged = tt
@@ -262,32 +269,17 @@ says_so text old new (Err (Stopped (Ends.Device s))) all unsaid = unsaid.said
 says_so text old new (Err Output) all unsaid = tt
 says_so text old new (Err (Stopped fault)) all unsaid = absurd unsaid
 
-idle_by : (s : State) → s.dirty ≡ [] → IsTrue (is_idle (force_steps s))
-idle_by s none = by s.down (nat_lt 0 (length s.dirty)) (ap (λ (x : List ℕ). nat_lt 0 (length x)) none)
-  where
-    by : (o : Option ℕ) (b : Bool) → b ≡ false → IsTrue (is_idle (Test (option_map Why.Down o) ∷ Force b ∷ []))
-    by (Some place) b is = refl
-    by None false is = refl
-    by None true is = cc is
-
-pub closed_still : {D : Type 0} (now : D → Moment) (s : State) (a m : D) → (IsTrue (is_idle (force_steps s)) → m ≡ a) → s.dirty ≡ [] → Touches nowhere (now a) (now m)
-closed_still {D = D} now s a m idle none = subst (λ (x : D). Touches nowhere (now a) (now x)) (sym (idle (idle_by s none))) (record { size = refl; others = λ n out. inl refl })
-
-pub closed_unwritten : {D : Type 0} (M : Ghosts D) (s : State) (a m : D) → (IsTrue (is_idle (force_steps s)) → m ≡ a) → s.dirty ≡ [] → (M.ledger m).written ≡ (M.ledger a).written
-closed_unwritten {D = D} M s a m idle none = ap (λ (x : D). (M.ledger x).written) (idle (idle_by s none))
-
 -- a text that is said writes no sector
 pub said_unwritten : (syncs : Bool) (x y : Ledger) → SyncsOnce syncs x y → y.written ≡ x.written
 said_unwritten syncs x y (inl same) = ap (λ (l : Ledger). l.written) same
 said_unwritten syncs x y (inr once) = ap (λ (l : Ledger). l.written) once.1
 
 -- a text behind a volume that was closed
-pub closed_by : {T : Type 0} (s : State) (text : List ℕ) (a m b : Moment) (r : Result T Halt) → m.windows ≡ a.windows → m.said ≡ a.said → Touches (force_writes s.layout) a m → (s.dirty ≡ [] → Touches nowhere a m) → Ages m b → SaysBy text m b r → (r ≡ Err (Stopped Ends.WornOut) → ⊥) → ((why : Fault) → r ≡ Err (Stopped why) → IsToldOn AreOfPage s.layout b.image why) → ClosesBy s text a b r
-closed_by s text a m b r windows same rest still ages says unworn told = record {
+pub closed_by : {T : Type 0} (s : State) (text : List ℕ) (a m b : Moment) (r : Result T Halt) → m.windows ≡ a.windows → m.said ≡ a.said → Touches (may_close s) a m → Ages m b → SaysBy text m b r → (r ≡ Err (Stopped Ends.WornOut) → ⊥) → ((why : Fault) → r ≡ Err (Stopped why) → IsToldOn AreOfPage s.layout b.image why) → ClosesBy s text a b r
+closed_by s text a m b r windows same rest ages says unworn told = record {
   windows = ages.windows ∙ windows;
   says = said_by text a m b same r says;
-  rest = then_worn (force_writes s.layout) a m b windows rest ages.image;
-  still = λ none. then_worn nowhere a m b windows (still none) ages.image;
+  rest = then_worn (may_close s) a m b windows rest ages.image;
   unworn = unworn;
   told = told;
 }
@@ -300,37 +292,72 @@ may_worn (Word.Get key) a b (Said.DamagedAt k n) quiet may = (may.0, stays_damag
 may_worn Word.Scrub a b (Said.Scrubbed found healed) quiet may = stay_damaged a b quiet found may
 may_worn command a b reply quiet may = may
 
--- a sector that is told stays damaged
-may_later : (command : Command) (s t : State) (a b : Moment) (reply : Reply) → KeepsState command s t → s.dirty ≡ [] → (t.dirty ≡ [] → Touches nowhere a b) → MayReply command a.image reply → MayReply command b.image reply
-may_later (Word.Get key) s t a b (Said.DamagedAt k n) still none quiet may = (may.0, stays_damaged a b n (quiet (ap (λ (x : State). x.dirty) still ∙ none)) may.1)
-may_later Word.Scrub s t a b (Said.Scrubbed found healed) still none quiet may = stay_damaged a b (quiet (ap (λ (x : State). x.dirty) (still none) ∙ none)) found may
-may_later command s t a b reply still none quiet may = may
+-- what a reply tells as damaged are data sectors
+abbrev pub TellsData : Command → Layout → Reply → Type 0
+TellsData (Word.Get key) l (Said.DamagedAt k n) = IsTrue (is_data l n)
+TellsData Word.Scrub l (Said.Scrubbed found healed) = AllByRecursion (λ x. IsTrue (is_data l x.1)) found
+TellsData command l reply = Unit {0}
 
--- where it writes only as a force does
-force_rest : (s t : State) (a m b : Moment) → m.windows ≡ a.windows → t.layout ≡ s.layout → Touches (force_writes s.layout) a m → Touches (force_writes t.layout) m b → Touches (force_writes s.layout) a b
-force_rest s t a m b windows layout first closing =
-    touches_then (force_writes s.layout) (force_writes t.layout) (force_writes s.layout) a m b (λ x out. out) (λ x out. subst (λ (l : Layout). IsFalse (force_writes l x)) (sym layout) out) windows first closing
+all_data : (l : Layout) (i : Image) (found : List (Key × ℕ)) → AreDamaged l i found → AllByRecursion (λ x. IsTrue (is_data l x.1)) found
+all_data l i [] damaged = tt
+all_data l i (x ∷ found) damaged = (damaged.0.0, all_data l i found damaged.1)
 
--- and where it writes a version too
-made_rest : (need : ℕ) (s t : State) (a m b : Moment) → m.windows ≡ a.windows → t.layout ≡ s.layout → Touches (put_writes s need) a m → Touches (force_writes t.layout) m b → Touches (put_writes s need) a b
-made_rest need s t a m b windows layout first closing =
-    let may = put_writes s need in
-    touches_then may (force_writes t.layout) may a m b (λ x out. out) (λ x out. subst (λ (l : Layout). IsFalse (force_writes l x)) (sym layout) (or_left (force_writes s.layout x) (in_place (place_in s need) x) out)) windows first closing
+pub tells_data : {S : Type 0} (state : S → State) (resident : S → ℕ → Option (List ℕ)) (command : Command) (s t : State) (a b : Moment) (reply : Reply) → Because state resident command s t a b reply → TellsData command s.layout reply
+tells_data state resident (Word.Get key) s t a b (Said.DamagedAt k n) because = because
+tells_data state resident Word.Scrub s t a b (Said.Scrubbed found healed) because = all_data s.layout b.image found because.0
+tells_data state resident command s t a b reply because = tt
 
-alone_rest : (command : Command) (s t : State) (a m b : Moment) → m.windows ≡ a.windows → t.layout ≡ s.layout → KeepsState command s t → s.dirty ≡ [] → TouchesBy command s a m → Touches (force_writes t.layout) m b → (t.dirty ≡ [] → Touches nowhere m b)
-    → TouchesBy command s a b
-alone_rest (Word.Put name bytes keep) s t a m b windows layout still none first closing quiet = made_rest (sectors_for (length bytes)) s t a m b windows layout first closing
-alone_rest (Word.Load key keep bytes) s t a m b windows layout still none first closing quiet = made_rest (sectors_for (length bytes)) s t a m b windows layout first closing
-alone_rest (Word.Delete key) s t a m b windows layout still none first closing quiet = force_rest s t a m b windows layout first closing
-alone_rest (Word.Keep name keep) s t a m b windows layout still none first closing quiet = force_rest s t a m b windows layout first closing
-alone_rest (Word.Move key name) s t a m b windows layout still none first closing quiet = force_rest s t a m b windows layout first closing
-alone_rest Word.Force s t a m b windows layout still none first closing quiet = force_rest s t a m b windows layout first closing
-alone_rest Word.Tick s t a m b windows layout still none first closing quiet = force_rest s t a m b windows layout first closing
-alone_rest Word.Scrub s t a m b windows layout still none first closing quiet =
-    touches_then (scrub_writes s.layout) nowhere (scrub_writes s.layout) a m b (λ x out. out) (λ x out. refl) windows first (quiet (ap (λ (x : State). x.dirty) (still none) ∙ none))
-alone_rest Word.Upgrade s t a m b windows layout still none first closing quiet = touches_then is_root nowhere is_root a m b (λ x out. out) (λ x out. refl) windows first (quiet (still ∙ none))
-alone_rest (Word.Grow sectors) s t a m b windows layout still none first closing quiet = longer_then sectors is_root a m b windows first (quiet (still ∙ none))
-alone_rest command s t a m b windows layout still none first closing quiet = touches_then nowhere nowhere nowhere a m b (λ x out. out) (λ x out. out) windows first (quiet (ap (λ (x : State). x.dirty) still ∙ none))
+-- they stay damaged behind a close
+module _ (s t : State) (layout : t.layout ≡ s.layout) (a b : Moment) (closing : Touches (may_close t) a b) where
+  damaged_closed : (n : ℕ) → IsTrue (is_data s.layout n) → HasDamaged a.image n → HasDamaged b.image n
+  damaged_closed n inside was = damaged_on (may_close t) a b n closing (data_out t s.layout layout n inside) was
+
+  all_closed : (found : List (Key × ℕ)) → AllByRecursion (λ x. IsTrue (is_data s.layout x.1)) found → AllByRecursion (λ x. HasDamaged a.image x.1) found → AllByRecursion (λ x. HasDamaged b.image x.1) found
+  all_closed [] inside damaged = tt
+  all_closed (x ∷ found) inside damaged = (damaged_closed x.1 inside.0 damaged.0, all_closed found inside.1 damaged.1)
+
+  may_closed : (command : Command) (reply : Reply) → TellsData command s.layout reply → MayReply command a.image reply → MayReply command b.image reply
+  may_closed (Word.Get key) (Said.DamagedAt k n) inside may = (may.0, damaged_closed n inside may.1)
+  may_closed Word.Scrub (Said.Scrubbed found healed) inside may = all_closed found inside may
+  may_closed command reply inside may = may
+
+-- ---- where a command and a close behind it write
+
+module _ (s t : State) (layout : t.layout ≡ s.layout) (none : s.dirty ≡ []) (x : ℕ) where
+  saving_out : IsFalse (saving_writes s.layout x) → IsFalse (saving_writes t.layout x)
+  saving_out out = subst (λ (l : Layout). IsFalse (saving_writes l x)) (sym layout) out
+
+  -- where a force writes, or a map is saved
+  forced_out : IsFalse (force_writes s.layout x) → IsFalse (saving_writes s.layout x) → IsFalse (may_close t x)
+  forced_out force out = close_out t x (subst (λ (l : Layout). IsFalse (force_writes l x)) (sym layout) force) (saving_out out)
+
+  -- and where no page waits, only where a map is saved
+  still_out : t.dirty ≡ s.dirty → IsFalse (saving_writes s.layout x) → IsFalse (may_close t x)
+  still_out same out = clean_out t (same ∙ none) x (saving_out out)
+
+  behind_out : (command : Command) → KeepsState command s t → IsFalse (may_write command s x) → IsFalse (saving_writes s.layout x) → IsFalse (may_close t x)
+  behind_out (Word.Put name bytes keep) still may out = forced_out (or_left (force_writes s.layout x) (in_place (place_in s (sectors_for (length bytes))) x) may) out
+  behind_out (Word.Load key keep bytes) still may out = forced_out (or_left (force_writes s.layout x) (in_place (place_in s (sectors_for (length bytes))) x) may) out
+  behind_out (Word.Delete key) still may out = forced_out may out
+  behind_out (Word.Keep name keep) still may out = forced_out may out
+  behind_out (Word.Move key name) still may out = forced_out may out
+  behind_out Word.Force still may out = forced_out may out
+  behind_out Word.Tick still may out = forced_out may out
+  behind_out Word.Scrub still may out = still_out (ap (λ (y : State). y.dirty) (still none)) out
+  behind_out Word.Upgrade still may out = still_out still out
+  behind_out (Word.Grow sectors) still may out = still_out still out
+  behind_out command still may out = still_out (ap (λ (y : State). y.dirty) still) out
+
+alone_rest : (command : Command) (s t : State) (a m b : Moment) → m.windows ≡ a.windows → t.layout ≡ s.layout → KeepsState command s t → s.dirty ≡ [] → TouchesBy command s a m → Touches (may_close t) m b → TouchesAlone command s a b
+alone_rest command s t a m b windows layout still none first closing =
+    in_then command (may_write command s) (may_close t) (λ x. may_write command s x || saving_writes s.layout x) a m b (λ x out. (or_parts (may_write command s x) (saving_writes s.layout x) out).0)
+    (λ x out. let both = or_parts (may_write command s x) (saving_writes s.layout x) out in behind_out s t layout none x command still both.0 both.1) windows first closing
+
+-- where it is not closed
+alone_unclosed : (command : Command) (s : State) (a b : Moment) → b.windows ≡ a.windows → TouchesBy command s a b → TouchesAlone command s a b
+alone_unclosed command s a b windows rest =
+    in_then command (may_write command s) nowhere (λ x. may_write command s x || saving_writes s.layout x) a b b (λ x out. (or_parts (may_write command s x) (saving_writes s.layout x) out).0) (λ x out. refl) windows rest
+    (record { size = refl; others = λ x out. inl refl })
 
 keeps_said : (text : List ℕ) (a b : Moment) (r : Result ℕ Halt) → SaysBy text a b (unit_of r) → KeepsSaid a b r
 keeps_said text a b (Ok status) says = tt
@@ -342,14 +369,14 @@ replied command reply a b may (Ok status) gives says = record { reply = reply; m
 replied command reply a b may (Err end) gives says = tt
 
 module _ (command : Command) (s t : State) (a m : Moment) (windows : m.windows ≡ a.windows) (same : m.said ≡ a.said) where
-  pub alone_closed : (b : Moment) (x : Reply) (r : Result ℕ Halt) → t.layout ≡ s.layout → MayAnswer command s t a m (Ok x) → IfOk r (λ status. status ≡ reply_status x) → ClosesBy t (reply_alone x) m b (unit_of r) → AnswersAlone command s a b r
-  alone_closed b x r layout answers gives closes =
+  pub alone_closed : (b : Moment) (x : Reply) (r : Result ℕ Halt) → t.layout ≡ s.layout → TellsData command s.layout x → MayAnswer command s t a m (Ok x) → IfOk r (λ status. status ≡ reply_status x) → ClosesBy t (reply_alone x) m b (unit_of r) → AnswersAlone command s a b r
+  alone_closed b x r layout inside answers gives closes =
       let says = said_by (reply_alone x) a m b same (unit_of r) closes.says in
       record {
         windows = closes.windows ∙ windows;
         quiet = keeps_said (reply_alone x) a b r says;
-        replies = λ none. replied command x a b (may_later command s t m b x answers.still none closes.still answers.replies) r gives says;
-        rest = λ none. alone_rest command s t a m b windows layout answers.still none answers.rest closes.rest closes.still;
+        replies = λ none. replied command x a b (may_closed s t layout m b closes.rest command x inside answers.replies) r gives says;
+        rest = λ none. alone_rest command s t a m b windows layout answers.still none answers.rest closes.rest;
         worn = λ is. absurd (closes.unworn (ap (λ (x : Result ℕ Halt). unit_of x) is));
         told = λ why is. told_may command s.layout b.image why (subst (λ (l : Layout). IsToldOn AreOfPage l b.image why) layout (closes.told why (ap (λ (x : Result ℕ Halt). unit_of x) is)));
       }
@@ -359,7 +386,7 @@ module _ (command : Command) (s t : State) (a m : Moment) (windows : m.windows �
     windows = windows;
     quiet = same;
     replies = λ none. tt;
-    rest = λ none. answers.rest;
+    rest = λ none. alone_unclosed command s a m windows answers.rest;
     worn = λ is. let e : why ≡ Ends.WornOut = cc is in answers.worn (ap (λ (w : Fault). Err w) e);
     told = λ other is. let e : why ≡ other = cc is in subst (λ (w : Fault). IsToldOn (MayLose command) s.layout m.image w) e answers.told;
   }
@@ -386,7 +413,7 @@ module _ (command : Command) (s : State) (a m : Moment) (none : s.dirty ≡ []) 
   one_failed b why status x utters ends = record {
     windows = utters.windows ∙ x.windows;
     says = inr (fault_alone why a m b status x.quiet ends);
-    rest = touched_worn command s a m b x.windows (x.rest none) utters.image;
+    rest = in_worn command (λ t. may_write command s t || saving_writes s.layout t) a m b x.windows (x.rest none) utters.image;
   }
 
   pub one_unheard : AnswersAlone command s a m (Err Output) → EndsOne command s a m 6
@@ -394,40 +421,26 @@ module _ (command : Command) (s : State) (a m : Moment) (none : s.dirty ≡ []) 
 
 -- ---- from the mount on
 
--- where a force writes
-found_force : (sectors : ℕ) (s : State) (a m b : Moment) → IsFound sectors s a m → Touches (force_writes s.layout) m b → WritesForce sectors a m b
-found_force sectors s a m b found rest = inr (record { seen = found.seen; from = found.from; layout = s.layout; anchor = found.anchor; found = found.found; left = found.left }, rest)
+behind_mount : (command : Command) (sectors : ℕ) (s : State) (a m b : Moment) → IsFound sectors s a m → TouchesAlone command s m b → WritesBehind command sectors a m b
+behind_mount command sectors s a m b found rest = by command rest
+  where
+    volume : HasVolume sectors a
+    volume = record { seen = found.seen; from = found.from; layout = s.layout; anchor = found.anchor; found = found.found; left = found.left }
 
-behind_mount : (command : Command) (sectors : ℕ) (s : State) (a m b : Moment) → IsFound sectors s a m → b.windows ≡ m.windows → TouchesBy command s m b → WritesBehind command sectors a m b
-behind_mount (Word.Put name bytes keep) sectors s a m b found windows rest = tt
-behind_mount (Word.Delete key) sectors s a m b found windows rest = found_force sectors s a m b found rest
-behind_mount (Word.Keep name keep) sectors s a m b found windows rest = found_force sectors s a m b found rest
-behind_mount (Word.Move key name) sectors s a m b found windows rest = found_force sectors s a m b found rest
-behind_mount (Word.Load key keep bytes) sectors s a m b found windows rest = tt
-behind_mount Word.Force sectors s a m b found windows rest = found_force sectors s a m b found rest
-behind_mount Word.Tick sectors s a m b found windows rest = found_force sectors s a m b found rest
-behind_mount Word.Scrub sectors s a m b found windows rest = inr (record { seen = found.seen; from = found.from; layout = s.layout; anchor = found.anchor; found = found.found; left = found.left }, rest)
-behind_mount Word.Upgrade sectors s a m b found windows rest = rest
-behind_mount (Word.Grow n) sectors s a m b found windows rest = rest
-behind_mount command sectors s a m b found windows rest = touches_ages m b windows rest
+    by : (command : Command) → TouchesAlone command s m b → WritesBehind command sectors a m b
+    by (Word.Put name bytes keep) rest = tt
+    by (Word.Load key keep bytes) rest = tt
+    by command rest = inr (volume, rest)
 
 behind_nothing : (command : Command) (sectors : ℕ) (a m b : Moment) → Ages m b → WritesBehind command sectors a m b
 behind_nothing (Word.Put name bytes keep) sectors a m b ages = tt
-behind_nothing (Word.Delete key) sectors a m b ages = inl ages
-behind_nothing (Word.Keep name keep) sectors a m b ages = inl ages
-behind_nothing (Word.Move key name) sectors a m b ages = inl ages
 behind_nothing (Word.Load key keep bytes) sectors a m b ages = tt
-behind_nothing Word.Force sectors a m b ages = inl ages
-behind_nothing Word.Tick sectors a m b ages = inl ages
-behind_nothing Word.Scrub sectors a m b ages = inl ages
-behind_nothing Word.Upgrade sectors a m b ages = worn_touches is_root m b ages.image
-behind_nothing (Word.Grow n) sectors a m b ages = worn_longer n is_root m b ages.image
-behind_nothing command sectors a m b ages = ages
+behind_nothing command sectors a m b ages = inl ages
 
 pub run_mounted : (command : Command) (sectors : ℕ) (s : State) (a m b : Moment) (status : ℕ) → IsFound sectors s a m → m.said ≡ a.said → MountKeeps sectors a m → EndsOne command s m b status → RunsOne command sectors a b status
 run_mounted command sectors s a m b status found same kept ends = record {
   says = one_since command a m b status same ends.says;
-  rest = record { mounted = m; rest = kept; behind = behind_mount command sectors s a m b found ends.windows ends.rest };
+  rest = record { mounted = m; rest = kept; behind = behind_mount command sectors s a m b found ends.rest };
 }
 
 pub run_refused : (command : Command) (sectors : ℕ) (why : Fault) (a m b : Moment) (status : ℕ) → m.said ≡ a.said → MountKeeps sectors a m → Utters (fault_text why) m b → EndsWith why m b status → RunsOne command sectors a b status

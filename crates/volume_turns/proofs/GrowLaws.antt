@@ -18,12 +18,11 @@ use Rattle.sector_disk.specs.Image.{AreShort, IsWorn}
 use Rattle.sector_disk.specs.Machine.{LeavesOnly, Moment}
 use Rattle.fsd_log.specs.Scan.{Placed}
 use Rattle.fsd_files.specs.Answers.{Outcome, grow_fault, grown, grown_unless}
-use Rattle.fsd_files.specs.Disk.{Image, Touches, nowhere}
+use Rattle.fsd_files.specs.Disk.{Image, Touches}
 use Rattle.fsd_files.specs.declared.reply.Reply.{Reply}
 use Rattle.fsd_files.specs.declared.reply.Reply.TheVariants as Said
 use Rattle.fsd_files.specs.Volume.{Volume, free_count}
 use Rattle.fsd_sound.specs.Mounted.{Mounted, telling_of}
-use Rattle.fsd_sound.specs.Writes.{force_writes}
 use Rattle.fsd_sound.specs.Shown.{told}
 use Rattle.fsd_sound.specs.Sound.{weak_of}
 use Rattle.fsd_sound.proofs.SizedLaws.{told_sized}
@@ -33,6 +32,7 @@ use Rattle.fsd_texts.specs.declared.fault.Fault.{Fault}
 use Rattle.fsd_texts.specs.declared.fault.Fault.TheVariants as Ends
 use Rattle.volume_contract.specs.Growth.{EndsGrow, grown_known, with_more}
 use Rattle.volume_contract.specs.Order.{IsDeviceIn, KeepsRefused, Roots, Test, grow_steps, is_idle, is_root}
+use Rattle.volume_contract.specs.Closing.{may_close}
 use Rattle.volume_contract.specs.State.{Ages, Known, Stands, State, downs_for, forced_of, none_open, volume_of}
 use Rattle.volume_turns.specs.declared.turns.Halt.{Halt}
 use Rattle.volume_turns.specs.declared.turns.Halt.TheVariants.{Fault as Stopped}
@@ -191,7 +191,6 @@ grow_failed state has M wears short timed n v w a m k none stood on disk honest 
 pub grown_answers : (n free : ℕ) (s t : State) (a m b : Moment) → m.windows ≡ a.windows → m.said ≡ a.said → MayAnswer (Word.Grow n) s t a m (Ok (Said.Grown n free)) → Ages m b → (r : Result ℕ Halt) → IfOk r (λ status. status ≡ 0) → SaysBy (reply_alone (Said.Grown n free)) m b (unit_of r)
     → (unit_of r ≡ Err (Stopped Ends.WornOut) → ⊥) → ((why : Fault) → unit_of r ≡ Err (Stopped why) → IsToldOn AreOfPage s.layout b.image why) → AnswersAlone (Word.Grow n) s a b r
 grown_answers n free s t a m b windows same answers ages r gives says unworn told =
-    let still : Touches (force_writes s.layout) m m = record { size = refl; others = λ x out. inl refl } in
-    let nothing : Touches nowhere m m = record { size = refl; others = λ x out. inl refl } in
-    alone_closed (Word.Grow n) s s a m windows same b (Said.Grown n free) r refl (record { replies = answers.replies; rest = answers.rest; still = refl; worn = λ is. absurd (cc is); numbers = goes_none 1 s s refl; told = tt }) gives
-    (closed_by s (reply_alone (Said.Grown n free)) m m b (unit_of r) refl refl still (λ clean. nothing) ages says unworn told)
+    let still : Touches (may_close s) m m = record { size = refl; others = λ x out. inl refl } in
+    alone_closed (Word.Grow n) s s a m windows same b (Said.Grown n free) r refl tt (record { replies = answers.replies; rest = answers.rest; still = refl; worn = λ is. absurd (cc is); numbers = goes_none 1 s s refl; told = tt }) gives
+    (closed_by s (reply_alone (Said.Grown n free)) m m b (unit_of r) refl refl still ages says unworn told)

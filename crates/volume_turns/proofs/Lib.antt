@@ -52,6 +52,7 @@ pub mod RestoreTakingLaws
 pub mod RootedLaws
 pub mod RunLaws
 pub mod SaidLaws
+pub mod SavingLaws
 pub mod SayLaws
 pub mod ScriptEndLaws
 pub mod ScriptGroupLaws

@@ -1,5 +1,6 @@
 -- An image that may get more sectors: how many are told, what is touched, and what a call leaves.
 use Rattle.std.proofs.Common.{◌≡◌, ℕ, Bool, List, Option, true, false, refl, sym, subst, arith}
+use Rattle.std.specs.Prelude.{IsFalse}
 use Rattle.sector_disk.specs.declared.machine.Machine.{Ghosts}
 use Rattle.sector_disk.specs.Calls.{GrowsDisk, Since, WritesDisk}
 use Rattle.sector_disk.proofs.CallLaws.{writes_none}
@@ -12,7 +13,7 @@ use Rattle.scrub.proofs.LeadLaws.{touches_then, worn_then, worn_touches}
 use Rattle.fsd_log.specs.Scan.{Placed}
 use Rattle.fsd_sound.specs.Mounted.{Mounted}
 use Rattle.volume_contract.specs.State.{State}
-use Rattle.volume_turns.specs.Commands.{TouchesBy, may_write}
+use Rattle.volume_turns.specs.Commands.{TouchesIn}
 use Rattle.volume_turns.specs.Steps.{Stays, is_alone, may_grow}
 use Rattle.volume_turns.specs.Turns.{KeepsSectors}
 use Rattle.volume_turns.proofs.StaysLaws.{mounted_stays}
@@ -43,18 +44,21 @@ then_worn may a b c windows first worn = touches_then may may may a b c (λ s ou
 pub worn_longer : (n : ℕ) (may : Sectors) (a b : Moment) → IsWorn (open_damage a.windows) a.image b.image → TouchesLonger n may a b
 worn_longer n may a b worn = let same = worn.size in record { size = omega (arith, same); most = omega (arith, same); others = λ s out. worn.each s }
 
-pub longer_then : (n : ℕ) (may : Sectors) (a b c : Moment) → b.windows ≡ a.windows → TouchesLonger n may a b → Touches nowhere b c → TouchesLonger n may a c
-longer_then n may a b c windows first second = record {
+longer_then : (n : ℕ) (earlier later may : Sectors) (a b c : Moment) → ((s : ℕ) → IsFalse (may s) → IsFalse (earlier s)) → ((s : ℕ) → IsFalse (may s) → IsFalse (later s)) → b.windows ≡ a.windows → TouchesLonger n earlier a b → Touches later b c → TouchesLonger n may a c
+longer_then n earlier later may a b c more_first more_then windows first second = record {
   size = omega (arith, first.size, second.size);
   most = omega (arith, first.most, second.size);
-  others = λ s out. worn_then (open_damage a.windows s) (sector_at a.image s) (sector_at b.image s) (sector_at c.image s) (first.others s out)
-      (subst (λ (w : Windows). SectorWorn (open_damage w s) (sector_at b.image s) (sector_at c.image s)) windows (second.others s refl));
+  others = λ s out. worn_then (open_damage a.windows s) (sector_at a.image s) (sector_at b.image s) (sector_at c.image s) (first.others s (more_first s out))
+      (subst (λ (w : Windows). SectorWorn (open_damage w s) (sector_at b.image s) (sector_at c.image s)) windows (second.others s (more_then s out)));
 }
 
 -- by any command
-pub touched_worn : (command : Command) (s : State) (a b c : Moment) → b.windows ≡ a.windows → TouchesBy command s a b → IsWorn (open_damage b.windows) b.image c.image → TouchesBy command s a c
-touched_worn (Word.Grow sectors) s a b c windows first worn = longer_then sectors (may_write (Word.Grow sectors) s) a b c windows first (worn_touches nowhere b c worn)
-touched_worn command s a b c windows first worn = then_worn (may_write command s) a b c windows first worn
+pub in_then : (command : Command) (earlier later may : Sectors) (a b c : Moment) → ((s : ℕ) → IsFalse (may s) → IsFalse (earlier s)) → ((s : ℕ) → IsFalse (may s) → IsFalse (later s)) → b.windows ≡ a.windows → TouchesIn command earlier a b → Touches later b c → TouchesIn command may a c
+in_then (Word.Grow n) earlier later may a b c more_first more_then windows first second = longer_then n earlier later may a b c more_first more_then windows first second
+in_then command earlier later may a b c more_first more_then windows first second = touches_then earlier later may a b c more_first more_then windows first second
+
+pub in_worn : (command : Command) (may : Sectors) (a b c : Moment) → b.windows ≡ a.windows → TouchesIn command may a b → IsWorn (open_damage b.windows) b.image c.image → TouchesIn command may a c
+in_worn command may a b c windows first worn = in_then command may nowhere may a b c (λ s out. out) (λ s out. refl) windows first (worn_touches nowhere b c worn)
 
 -- ---- what is left
 

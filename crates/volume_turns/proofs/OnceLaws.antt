@@ -46,7 +46,8 @@ use Rattle.client_desk.proofs.FinishLaws.{sits_fresh}
 use Rattle.volume_contract.specs.Ends.{Closes}
 use Rattle.volume_turns.specs.Once.{Anything, close_fault, InClose, SaysClosedBy, EndsClosedBy, ClosesAndSays, ClosesAndSaysBy, IsDone, EndsAlone, IsAlone, SaysRooted, Unclosed, unit_of}
 use Rattle.volume_contract.specs.Order.{IsDeviceRefusal}
-use Rattle.volume_contract.specs.State.{State, Ages, Known, volume_of, forced_of, Stands, Leaves, is_worn, none_open}
+use Rattle.volume_contract.specs.Closing.{LeavesClosing, may_close}
+use Rattle.volume_contract.specs.State.{State, Ages, Known, volume_of, forced_of, Stands, is_worn, none_open}
 use Rattle.volume_turns.specs.Seats.{IsAnsweredIn, Seated, SitsAt, seated, session_in}
 use Rattle.volume_turns.specs.Steps.{Does, IsAnswered, SaysEither, StaysBy, StaysSaying, StaysSoundFor}
 use Rattle.volume_turns.specs.Turns.{InRun, EndsAtOnce, OnDisk, SaysAll, Unsaid, UttersBehind, turn_by}
@@ -149,10 +150,10 @@ module _ {D : Type 0} (M : Ghosts D) (k : Known) (f : ℕ) (own : Layout) (text 
   said_closed (Err Output) says synced unsaid = tt
   said_closed (Err (Stopped fault)) says synced unsaid = absurd unsaid
 
-module _ {S D : Type 0} (state : S → State) (has : S → Mounted → List Placed → Type 0) (M : Ghosts D) (v : S) (a m b : D) (k : Known) (f : ℕ) (stands : Stands state has v k (M.now a)) (on : OnDisk M k f a) (text : List ℕ) (may : ℕ → Bool) (fault : Option ℕ)
-    (disk : WritesDisk M fault (Leaves state has v may) a m) (honest : M.honest m) (at_a : IsTimed M a) (at_m : IsTimed M m) where
+module _ {S D : Type 0} (state : S → State) (has : S → Mounted → List Placed → Type 0) (M : Ghosts D) (v : S) (a m b : D) (k : Known) (f : ℕ) (stands : Stands state has v k (M.now a)) (on : OnDisk M k f a) (text : List ℕ) (fault : Option ℕ)
+    (disk : WritesDisk M fault (LeavesClosing state has v) a m) (honest : M.honest m) (at_a : IsTimed M a) (at_m : IsTimed M m) where
   closing_run : LeavesOnly M.moment M.left_since a m (StaysSoundFor k (M.now a))
-  closing_run = leaves_more M.moment M.left_since a m (Leaves state has v may (M.now a)) (StaysSoundFor k (M.now a)) (λ left leaves. sound_stays k (M.now a) left may (leaves k stands)) (disk.any_moment honest)
+  closing_run = leaves_more M.moment M.left_since a m (LeavesClosing state has v (M.now a)) (StaysSoundFor k (M.now a)) (λ left leaves. sound_stays k (M.now a) left (may_close (state v)) (leaves k stands).sound) (disk.any_moment honest)
 
   closing : (n : ℕ) → f ≤ n → (shown last : Moment) → StaysSoundFor k (M.now a) last → IsSound k.mounted.volume.layout k.windows k.changes n shown.image → InClose k.mounted.volume.layout k f text (M.now a) (shows_of shown last)
   closing n least shown last stays sound =

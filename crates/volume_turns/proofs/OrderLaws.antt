@@ -11,6 +11,8 @@ use Rattle.run_table.proofs.ChoiceLaws.{pick_none}
 use Rattle.fsd_formats.specs.NamePage.{max_keep, max_length}
 use Rattle.fsd_files.specs.Answers.{size_fault, least_pages}
 use Rattle.fsd_files.specs.Disk.{Sectors}
+use Rattle.fsd_sound.specs.Writes.{saving_writes}
+use Rattle.volume_contract.specs.Closing.{close_steps, saves}
 use Rattle.volume_contract.specs.State.{State, forces_first, forces_for_place, in_place, is_worn, or_freed, place_in}
 use Rattle.volume_contract.specs.Order.{CallStep, Test, Asks, Draw, Disk, Force, LookUp, Fetch, Data, IsDeviceIn, Comes, StepRefuses, Through, IsLookUp, IsFetch, IsLoss, IsDeviceRefusal, down, worn, place, by_itself, table_full, no_place_in, runs_at}
 
@@ -238,6 +240,19 @@ sizeless_through s rest is = passes_worn (is_worn s) is.1.0
 -- a force
 pub force_loss : (s : State) → s.down ≡ None → (comes_one : Bool) (why : Refusal) → Comes (down s ∷ Force comes_one ∷ []) why → IsLoss why
 force_loss s up comes_one why comes = elim (starts_up s up (Force comes_one ∷ []) why comes) [ inl here ↦ here.1 | inr later ↦ absurd later.1 ]
+
+device_loss : (may : Sectors) (why : Refusal) → IsDeviceIn may why → IsLoss why
+device_loss may (Why.Device s) is = tt
+device_loss may why is = absurd is
+
+-- and a close
+pub close_loss : (s : State) → s.down ≡ None → (why : Refusal) → Comes (close_steps s) why → IsLoss why
+close_loss s up why comes = elim (starts_up s up (Force (nat_lt 0 (length s.dirty)) ∷ cond (saves s) (Disk (saving_writes s.layout) ∷ []) []) why comes) [ inl here ↦ here.1 | inr later ↦ by (saves s) later.1 ]
+  where
+    by : (some : Bool) → Comes (cond some (Disk (saving_writes s.layout) ∷ []) []) why → IsLoss why
+    by true (inl is) = device_loss (saving_writes s.layout) why is
+    by true (inr later) = absurd later.1
+    by false none = absurd none
 
 -- a look-up, and the read behind it
 pub entry_down : (s : State) → s.down ≡ None → (why : Refusal) → Comes (down s ∷ LookUp ∷ Asks Why.NoSuch ∷ []) why → (t : ℕ) → why ≡ Why.Down t → ⊥

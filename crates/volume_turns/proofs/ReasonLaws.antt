@@ -1,7 +1,8 @@
 -- Why a command by itself is answered so, and how much it has written.
 use Rattle.std.proofs.Common.{◌≡◌, ℕ, ◌+◌, List, ◌++◌, [], ◌∷◌, length, Option, Some, None, inl, inr, refl, sym, ◌∙◌, ap, subst, arith, length-append}
-use Rattle.std.specs.Prelude.{◌⊎◌, IfOk, IfSome, Result, Ok, Err, option_map}
+use Rattle.std.specs.Prelude.{◌⊎◌, IfOk, IfSome, IsTrue, Result, Ok, Err, option_map}
 use Rattle.std.specs.List.{last_or}
+use Rattle.volume_layout.specs.Layout.{is_data}
 use Rattle.sector_disk.specs.Image.{IsWorn, Windows, open_damage}
 use Rattle.sector_disk.specs.Machine.{Ledger, Moment}
 use Rattle.sector_disk.proofs.Wear.{worn_refl, worn_trans}
@@ -88,22 +89,23 @@ module _ {S : Type 0} (state : S → State) (resident : S → ℕ → Option (Li
   pub because_since : (key : Key) (s r t : State) (old mid new : Moment) → r ≡ s → Ages old mid → (reply : Reply) → BecauseRead state resident key r t mid new reply → BecauseRead state resident key s t old new reply
   because_since key s r t old mid new same aged (Said.Refused why) x = λ is. showed_since s r t old mid new _ same aged (x is)
   because_since key s r t old mid new same aged (Said.Bytes k bytes) x = showed_since s r t old mid new _ same aged x
+  because_since key s r t old mid new same aged (Said.DamagedAt k n) x = subst (λ (y : State). IsTrue (is_data y.layout n)) same x
   because_since key s r t old mid new same aged reply x = tt
 
   -- of a read that was refused
-  pub read_because : (key : Key) (s t : State) (old new : Moment) (why : Refusal) (r : Result Reply Fault) → r ≡ read_ended_by key why → (why ≡ Why.NoSuch → BecauseRead state resident key s t old new (Said.Refused why))
+  pub read_because : (key : Key) (s t : State) (old new : Moment) (why : Refusal) (r : Result Reply Fault) → r ≡ read_ended_by key why → (why ≡ Why.NoSuch → BecauseRead state resident key s t old new (Said.Refused why)) → ((n : ℕ) → why ≡ Why.Damaged n → IsTrue (is_data s.layout n))
       → IfOk r (λ a. BecauseRead state resident key s t old new a)
-  read_because key s t old new why r is none = subst (λ (x : Result Reply Fault). IfOk x (λ a. BecauseRead state resident key s t old new a)) (sym is) (by why none)
+  read_because key s t old new why r is none inside = subst (λ (x : Result Reply Fault). IfOk x (λ a. BecauseRead state resident key s t old new a)) (sym is) (by why none inside)
     where
-      by : (w : Refusal) → (w ≡ Why.NoSuch → BecauseRead state resident key s t old new (Said.Refused w)) → IfOk (read_ended_by key w) (λ a. BecauseRead state resident key s t old new a)
-      by (Why.Damaged n) so = tt
-      by (Why.Device n) so = tt
-      by (Why.Down n) so = tt
-      by (Why.Lost a b) so = tt
-      by (Why.Unsound n) so = tt
-      by Why.WornOut so = tt
-      by Why.Memory so = tt
-      by w so = λ x. so x x
+      by : (w : Refusal) → (w ≡ Why.NoSuch → BecauseRead state resident key s t old new (Said.Refused w)) → ((n : ℕ) → w ≡ Why.Damaged n → IsTrue (is_data s.layout n)) → IfOk (read_ended_by key w) (λ a. BecauseRead state resident key s t old new a)
+      by (Why.Damaged n) so within = within n refl
+      by (Why.Device n) so within = tt
+      by (Why.Down n) so within = tt
+      by (Why.Lost a b) so within = tt
+      by (Why.Unsound n) so within = tt
+      by Why.WornOut so within = tt
+      by Why.Memory so within = tt
+      by w so within = λ x. so x x
 
   pub read_since : (key : Key) (s r t : State) (old mid new : Moment) → r ≡ s → Ages old mid → (x : Result Reply Fault) → IfOk x (λ a. BecauseRead state resident key r t mid new a) → IfOk x (λ a. BecauseRead state resident key s t old new a)
   read_since key s r t old mid new same aged (Ok a) why = because_since key s r t old mid new same aged a why

@@ -18,12 +18,11 @@ use Rattle.sector_disk.specs.Image.{AreShort, IsWorn, open_damage, sector_at}
 use Rattle.sector_disk.specs.Machine.{LeavesOnly, Moment}
 use Rattle.fsd_log.specs.Scan.{Head, Placed}
 use Rattle.fsd_files.specs.Answers.{Outcome, upgraded as upgrade_outcome_of}
-use Rattle.fsd_files.specs.Disk.{Image, Sectors, Has, Touches, nowhere}
+use Rattle.fsd_files.specs.Disk.{Image, Sectors, Has, Touches}
 use Rattle.fsd_files.specs.declared.reply.Reply.{Reply}
 use Rattle.fsd_files.specs.declared.reply.Reply.TheVariants as Said
 use Rattle.fsd_files.specs.Volume.{Volume}
 use Rattle.fsd_sound.specs.Mounted.{Mounted, telling_of}
-use Rattle.fsd_sound.specs.Writes.{force_writes}
 use Rattle.fsd_sound.specs.Shown.{told}
 use Rattle.fsd_sound.specs.Sound.{IsSound, Says, SaysTurned, weak_of}
 use Rattle.fsd_table.specs.Table.{told_in}
@@ -34,6 +33,7 @@ use Rattle.fsd_texts.specs.declared.command.Command.TheVariants as Word
 use Rattle.fsd_texts.specs.declared.fault.Fault.{Fault}
 use Rattle.fsd_texts.specs.declared.fault.Fault.TheVariants as Ends
 use Rattle.volume_contract.specs.Order.{IsDeviceIn, KeepsRefused, Roots, Test, Through, is_idle, is_root, layout_is, upgrade_steps, with_three}
+use Rattle.volume_contract.specs.Closing.{may_close}
 use Rattle.volume_contract.specs.State.{Ages, IsNew, Known, Stands, State, downs_for, forced_of, none_open, volume_of}
 use Rattle.volume_contract.specs.Upgrade.{EndsUpgrade, RootsStand, is_fresh, upgraded_known}
 use Rattle.volume_turns.specs.declared.turns.Halt.{Halt}
@@ -209,7 +209,6 @@ upgrade_failed state has M wears short timed v w a m k none stood on disk honest
 pub upgraded_answers : (s t : State) (a m b : Moment) → m.windows ≡ a.windows → m.said ≡ a.said → MayAnswer Word.Upgrade s t a m (Ok Said.Upgraded) → Ages m b → (r : Result ℕ Halt) → IfOk r (λ status. status ≡ 0) → SaysBy (reply_alone Said.Upgraded) m b (unit_of r)
     → (unit_of r ≡ Err (Stopped Ends.WornOut) → ⊥) → ((why : Fault) → unit_of r ≡ Err (Stopped why) → IsToldOn AreOfPage s.layout b.image why) → AnswersAlone Word.Upgrade s a b r
 upgraded_answers s t a m b windows same answers ages r gives says unworn told =
-    let still : Touches (force_writes s.layout) m m = record { size = refl; others = λ x out. inl refl } in
-    let nothing : Touches nowhere m m = record { size = refl; others = λ x out. inl refl } in
-    alone_closed Word.Upgrade s s a m windows same b Said.Upgraded r refl (record { replies = answers.replies; rest = answers.rest; still = refl; worn = λ is. absurd (cc is); numbers = goes_none 1 s s refl; told = tt }) gives
-    (closed_by s (reply_alone Said.Upgraded) m m b (unit_of r) refl refl still (λ clean. nothing) ages says unworn told)
+    let still : Touches (may_close s) m m = record { size = refl; others = λ x out. inl refl } in
+    alone_closed Word.Upgrade s s a m windows same b Said.Upgraded r refl tt (record { replies = answers.replies; rest = answers.rest; still = refl; worn = λ is. absurd (cc is); numbers = goes_none 1 s s refl; told = tt }) gives
+    (closed_by s (reply_alone Said.Upgraded) m m b (unit_of r) refl refl still ages says unworn told)

@@ -1,6 +1,6 @@
 -- Each command over a mounted volume: what it may reply and with which status, what it writes, what it may tell as lost,
 -- and why it replies so. A new command has its lines here, and what it answers in those of fsd_runs.
-use Rattle.std.specs.Prelude.{◌≡◌, ◌⊎◌, ⊤, ℕ, ◌<◌, ◌≤◌, List, [], length, Option, Some, None, Result, IsTrue}
+use Rattle.std.specs.Prelude.{◌≡◌, ◌⊎◌, ⊤, ℕ, ◌<◌, ◌≤◌, ◌||◌, List, [], length, Option, Some, None, Result, IsTrue}
 use Rattle.std.specs.List.{AllByRecursion}
 use Rattle.fsd_bytes.specs.declared.refusal.Refusal.{Refusal}
 use Rattle.fsd_bytes.specs.declared.refusal.Refusal.TheVariants as Why

@@ -1,5 +1,5 @@
 -- One command by itself: it is done, all is forced, and then its reply is said.
-use Rattle.std.specs.Prelude.{◌≡◌, ◌⊎◌, ⊤, ℕ, ◌<◌, ◌≤◌, List, [], ◌∷◌, ◌++◌, length, take, Some, Result, Ok, Err, OnOk, IfErr}
+use Rattle.std.specs.Prelude.{◌≡◌, ◌⊎◌, ⊤, ℕ, ◌<◌, ◌≤◌, List, [], ◌∷◌, ◌++◌, length, take, Some, Result, Ok, Err, OnOk, IfErr, IsTrue}
 use Rattle.volume_layout.specs.declared.layout.Layout.{Layout}
 use Rattle.fsd_bytes.specs.declared.refusal.Refusal.{Refusal}
 use Rattle.fsd_bytes.specs.declared.refusal.Refusal.TheVariants as Why
@@ -11,7 +11,8 @@ use Rattle.fsd_files.specs.Desk.{Session}
 use Rattle.fsd_files.specs.Disk.{Image, in_runs}
 use Rattle.fsd_files.specs.Volume.{Volume}
 use Rattle.fsd_sound.specs.Laid.{HasOwnRoots}
-use Rattle.fsd_sound.specs.Mounted.{telling_of}
+use Rattle.fsd_log.specs.Scan.{Placed}
+use Rattle.fsd_sound.specs.Mounted.{Mounted, telling_of}
 use Rattle.fsd_sound.specs.Shown.{told}
 use Rattle.fsd_sound.specs.Sound.{IsSound, weak_of}
 use Rattle.fsd_texts.specs.declared.command.Command.{Command}
@@ -26,7 +27,8 @@ use Rattle.fsd_sound.specs.declared.fault.MountFault.TheVariants as Refused
 use Rattle.volume_turns.specs.declared.turns.Halt.{Halt}
 use Rattle.volume_turns.specs.declared.turns.Halt.TheVariants.{Fault as Stopped, Output}
 use Rattle.scrub.specs.Telling.{AreOfPage}
-use Rattle.volume_contract.specs.State.{Known, volume_of, forced_of}
+use Rattle.volume_contract.specs.Closing.{HasSaved, saves}
+use Rattle.volume_contract.specs.State.{Known, Stands, State, volume_of, forced_of}
 use Rattle.volume_turns.specs.Steps.{SaysEither}
 use Rattle.volume_turns.specs.Turns.{InRun, EndsAtOnce, IsEndOn, KeepsSaid}
 
@@ -47,6 +49,11 @@ close_fault (Why.Lost a b) = Ends.Lost a b
 close_fault why = Ends.Memory
 
 -- ---- the end of a volume, and a text behind it
+
+-- The map stands that was saved, if one was. Where the volume stood, the disk's own table is its own.
+pub record HasClosed {S : Type 0} (state : S → State) (has : S → Mounted → List Placed → Type 0) (v : S) (old new : Moment) : Type 0 where
+  pub saved : IsTrue (saves (state v)) → HasSaved (state v) new
+  pub tells : (k : Known) → Stands state has v k old → told k.mounted.volume.layout new.image ≡ Some (telling_of (volume_of k))
 
 -- Nothing is said before all is forced, and on the disk, and both roots are those of this layout there.
 pub record InClose (own : Layout) (k : Known) (f : ℕ) (text : List ℕ) (old left : Moment) : Type 0 where

@@ -1,12 +1,12 @@
 -- Why a command by itself is answered so, and how much it has written, whatever the image.
-use Rattle.std.specs.Prelude.{◌≡◌, ◌⊎◌, ⊤, ℕ, ◌+◌, ◌<◌, ◌≤◌, List, [], ◌∷◌, length, Option, Some, None, Result, Ok, Err}
+use Rattle.std.specs.Prelude.{◌≡◌, ◌⊎◌, ⊤, ℕ, ◌+◌, ◌<◌, ◌≤◌, List, [], ◌∷◌, length, Option, Some, None, Result, Ok, Err, IsTrue}
 use Rattle.std.specs.List.{AllByRecursion}
 use Rattle.fsd_bytes.specs.declared.key.Key.{Key}
 use Rattle.fsd_bytes.specs.declared.pattern.Pattern.{Pattern}
 use Rattle.fsd_bytes.specs.declared.refusal.Refusal.TheVariants as Why
 use Rattle.fsd_formats.specs.declared.entry.Entry.{Entry}
 use Rattle.volume_layout.specs.declared.kind.Kind.TheVariants.{Two, Three}
-use Rattle.volume_layout.specs.Layout.{most_of, with_kind}
+use Rattle.volume_layout.specs.Layout.{is_data, most_of, with_kind}
 use Rattle.run_table.specs.RunTable.{total}
 use Rattle.fsd_table.specs.Table.{Visit}
 use Rattle.fsd_files.specs.Answers.{grow_fault}
@@ -122,10 +122,11 @@ module _ {S : Type 0} (state : S → State) (resident : S → ℕ → Option (Li
     pub ends : (length met ≡ s.versions) ⊎ Showed s t old new (λ from. LacksLater (last_key met))
 
   -- No version of the key is there: a leaf between whose bounds the key stands lacks it. Bytes are all those of the entry,
-  -- which its sectors keep.
+  -- which its sectors keep. A sector that is told as damaged is one of the data area.
   abbrev pub BecauseRead : Key → (s t : State) → (old new : Moment) → Reply → Type 0
   BecauseRead key s t old new (Said.Refused why) = why ≡ Why.NoSuch → Showed s t old new (λ from. LacksKey key)
   BecauseRead key s t old new (Said.Bytes k bytes) = Showed s t old new (λ from. HasVersion t from.image key bytes)
+  BecauseRead key s t old new (Said.DamagedAt k n) = IsTrue (is_data s.layout n)
   BecauseRead key s t old new reply = ⊤
 
   -- A leaf that was reached had an entry of the version that is taken out.

@@ -2,7 +2,7 @@
 ghost use Rattle.std.specs.Prelude.{◌≡◌, ◌≤◌, ◌+◌, [], None, Err, IfErr, IfOk, OnOk, IsTrue, false, ℕ};
 ghost use Rattle.fsd_runs.specs.Commands.{reply_alone, reply_status};
 ghost use Rattle.volume_turns.specs.Answering.{AnswersAlone, ClosesBy};
-ghost use Rattle.volume_turns.specs.Once.{ClosesAndSays, IsAlone, close_fault, end_by_mount, unit_of};
+ghost use Rattle.volume_turns.specs.Once.{ClosesAndSays, HasClosed, IsAlone, close_fault, end_by_mount, unit_of};
 ghost use Rattle.volume_turns.specs.Commands.{IsStatusFrom};
 ghost use Rattle.volume_turns.specs.Healing.{HealsAlone, IfScrub};
 ghost use Rattle.volume_contract.specs.Closing.{saving_len};
@@ -46,6 +46,7 @@ pub(crate) fn close_and_say<M: Machine, V: Files<M>>(
     requires room { (V.state v).layout.sectors ≤ (M.report m.old).sectors }
     ensures speaks { Speaks M.Machine 1 m.old m.new result }
     ensures closing { M.honest m.new → ClosesBy (V.state v) text.now (M.now m.old) (M.now m.new) result }
+    ensures closed { M.honest m.new → OnOk result (HasClosed V.state V.holds v (M.now m.old) (M.now m.new)) }
     ensures wants { (V.state v).down ≡ None → IfErr result WantsNone }
     ensures written { (V.state v).dirty ≡ [] → OnOk result (M.tells m.new → (M.ledger m.new).written ≡ (M.ledger m.old).written + saving_len (V.state v)) }
     ensures closes { M.honest m.new → (k : Known) (f : ℕ) → Stands V.state V.holds v k (M.now m.old) → OnDisk M.Machine k f m.old → ClosesAndSays M.Machine k f text.now m.old m.new result }
@@ -83,6 +84,7 @@ pub(crate) fn close_as<M: Machine, V: Files<M> + Drop, T: Says>(
     ensures speaks { Speaks M.Machine 1 m.old m.new result }
     ensures written { (V.state v).dirty ≡ [] → OnOk result (M.tells m.new → (M.ledger m.new).written ≡ (M.ledger m.old).written + saving_len (V.state v)) }
     ensures closing { M.honest m.new → ClosesBy (V.state v) (T.errand.says answer.now) (M.now m.old) (M.now m.new) (unit_of result) }
+    ensures closed { M.honest m.new → OnOk result (HasClosed V.state V.holds v (M.now m.old) (M.now m.new)) }
     ensures closes { M.honest m.new → (k : Known) (f : ℕ) → Stands V.state V.holds v k (M.now m.old) → OnDisk M.Machine k f m.old → ClosesAndSays M.Machine k f (T.errand.says answer.now) m.old m.new (unit_of result) }
 {
     let Ok(text) = T::text(alloc, answer) else {

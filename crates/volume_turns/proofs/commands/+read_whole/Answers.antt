@@ -122,7 +122,7 @@ returns-in-Err-clause-tells g t c =
             told = read_told_so AreOfPage s.layout b.image key why r is (told_of s u (V.resident c.args.v.now) a b (ap (λ (x : State). x.layout) e.state) why (e.tells.causes h));
           };
       written = λ tells. reads_written (M.ledger c.args.m.now) (M.ledger c.read.new.m) (e.disk.ledger tells) r;
-      because = λ h. read_because V.state V.resident key s u a b why r is (λ none same. showed_here V.state V.resident c.args.v.now u a b _ (e.tells.absent (ap (λ (w : Refusal). Err w) none) h));
+      because = λ h. read_because V.state V.resident key s u a b why r is (λ none same. showed_here V.state V.resident c.args.v.now u a b _ (e.tells.absent (ap (λ (w : Refusal). Err w) none) h)) (λ n same. (e.tells.damaged n (ap (λ (w : Refusal). Err w) same) h).within);
     }
 
 -- ---- with room for the longest

@@ -1,7 +1,6 @@
 use Rattle.std.proofs.Common.{◌≡◌, ◌≤◌, ℕ, true, List, refl, ◌∙◌, subst}
 use Rattle.std.specs.Prelude.{OnOk}
 use Rattle.sector_disk.specs.Machine.{LeavesOnly}
-use Rattle.fsd_sound.specs.Writes.{force_writes}
 use Rattle.fsd_texts.specs.declared.fault.Fault.TheVariants as Ends
 use Rattle.fsd_runs.specs.Errands.{forced_turn}
 use Rattle.scrub.specs.Telling.{AreOfPage}
@@ -13,7 +12,7 @@ use Rattle.volume_turns.proofs.InputLaws.{close_of_call, device_close}
 use Rattle.volume_turns.proofs.LineLaws.{close_wants, wants_not}
 use Rattle.volume_turns.proofs.NumberLaws.{said_forced}
 use Rattle.volume_turns.proofs.OnceLaws.{close_failed, close_said}
-use Rattle.volume_turns.proofs.OrderLaws.{force_loss}
+use Rattle.volume_turns.proofs.OrderLaws.{close_loss}
 use Rattle.volume_turns.proofs.RunLaws.{on_err_said, on_ok_said}
 use Rattle.volume_turns.proofs.SaidLaws.{keeps_by, keeps_then}
 use Rattle.volume_turns.proofs.SayLaws.{timed_by}
@@ -48,7 +47,7 @@ returns-in-Ok g c =
       };
       wants = λ up. say.wants;
       closes = λ h k f stands on. let back = say.says.trust.honest h in
-          close_said V.state V.holds M c.args.v a m b k f stands on forced_turn.said (force_writes s.layout) _ disk back (timed a (disk.trust.honest back)) (timed m back) (c.in-Ok.ensures.done back k stands) (g.met.M.Machine.short m back) (timed b h) (say.says.since h)
+          close_said V.state V.holds M c.args.v a m b k f stands on forced_turn.said _ disk back (timed a (disk.trust.honest back)) (timed m back) (c.in-Ok.ensures.done back k stands) (g.met.M.Machine.short m back) (timed b h) (say.says.since h)
           (subst (λ (x : List ℕ). LeavesOnly M.moment M.left_since m b (UttersBehind true x (M.now m))) is (say.moments h))
           result (on_ok_said (SaysAll forced_turn.said (M.now m) (M.now b)) result h all) (on_ok_said ((M.now m).time ≤ (M.now b).synced) result h say.synced) (on_err_said (Unsaid (M.now m) (M.now b)) result h say.unsaid);
     }
@@ -72,6 +71,6 @@ returns-in-Err g c =
         says = tt;
         quiet = disk.quiet;
       };
-      wants = λ up. close_wants refused (force_loss s up _ refused e.order.follows);
-      closes = λ h k f stands on. close_failed V.state V.holds M c.args.v a m m k f stands on forced_turn.said (force_writes s.layout) _ disk h (timed a (disk.trust.honest h)) (timed m h) refused (e.done h k stands);
+      wants = λ up. close_wants refused (close_loss s up refused e.order.follows);
+      closes = λ h k f stands on. close_failed V.state V.holds M c.args.v a m m k f stands on forced_turn.said _ disk h (timed a (disk.trust.honest h)) (timed m h) refused (e.done h k stands);
     })

@@ -205,5 +205,5 @@ returns-in-Ok-grow-clause-answers g c h =
     let close = c.close_as.ensures in
     let back = close.speaks.trust.honest h in
     let done = ends_refused c.args.sectors s t c.in-Ok-grow.answer (sym c.is_grown.ensures ∙ c.if-is_grown.false) e.ends in
-    alone_closed (Word.Grow c.args.sectors) s t (M.now c.args.m.now) (M.now m) (e.disk.windows back) (e.disk.quiet back) (M.now b) c.in-Ok-grow.answer c.close_as.result (ap (λ (x : State). x.layout) done.2.1) (e.tells.answers back) close.status
+    alone_closed (Word.Grow c.args.sectors) s t (M.now c.args.m.now) (M.now m) (e.disk.windows back) (e.disk.quiet back) (M.now b) c.in-Ok-grow.answer c.close_as.result (ap (λ (x : State). x.layout) done.2.1) tt (e.tells.answers back) close.status
     (subst (λ (says : Reply → List ℕ). ClosesBy t (says c.in-Ok-grow.answer) (M.now m) (M.now b) (unit_of c.close_as.result)) c.requires.says (close.closing h))

@@ -10,7 +10,7 @@ use Rattle.volume_turns.proofs.SpeaksLaws.{speaks_behind, speaks_failed}
 use Rattle.volume_turns.specs.Commands.{IsStatusFrom}
 use Rattle.volume_turns.proofs.StatusLaws.{status_at}
 use Rattle.volume_turns.specs.Answering.{ClosesBy}
-use Rattle.volume_turns.proofs.AnsweringLaws.{alone_closed, alone_ended}
+use Rattle.volume_turns.proofs.AnsweringLaws.{alone_closed, alone_ended, tells_data}
 use Rattle.volume_turns.proofs.HealLaws.{alone_heals}
 use Rattle.volume_turns.proofs.once.answer_alone.Goals as goal
 
@@ -61,7 +61,8 @@ returns-in-Ok-clause-answers g c h =
     let m = now c.answer.new.m in
     let b = now c.close_as.new.m in
     let reply = c.in-Ok.answer in
-    alone_closed c.args.c.now (V.state c.args.v) t (now c.args.m.now) m (e.disk.windows back) (e.disk.quiet back) b c.in-Ok.answer c.close_as.result e.layout (e.tells.answers back) c.close_as.ensures.status
+    alone_closed c.args.c.now (V.state c.args.v) t (now c.args.m.now) m (e.disk.windows back) (e.disk.quiet back) b c.in-Ok.answer c.close_as.result e.layout
+    (tells_data V.state V.resident c.args.c.now (V.state c.args.v) t (now c.args.m.now) m c.in-Ok.answer (e.tells.because back)) (e.tells.answers back) c.close_as.ensures.status
     (subst (λ (says : Reply → List ℕ). ClosesBy t (says reply) m b (unit_of c.close_as.result)) c.requires.says (c.close_as.ensures.closing h))
 
 pub returns-in-Err-clause-answers : goal.returns-in-Err-clause-answers
@@ -82,10 +83,10 @@ returns-in-Ok-clause-heals g c h clean =
     let v = c.args.v in
     let w = c.answer.new.v in
     let m = c.answer.new.m in
-    alone_heals V.state V.holds V.resident g.met.V.Files.wears v w (M.now c.args.m.now) (M.now m) (M.now c.close_as.new.m) (g.met.M.Machine.short m back) (e.disk.windows back) (e.disk.quiet back) clean
+    alone_heals V.state V.holds V.resident v w (M.now c.args.m.now) (M.now m) (M.now c.close_as.new.m) (e.disk.windows back) (e.disk.quiet back) clean
     (M.tells c.close_as.new.m) (M.ledger c.args.m.now) (M.ledger m) (M.ledger c.close_as.new.m) c.args.c.now c.in-Ok.answer c.close_as.result (e.tells.answers back) (e.tells.because back) (λ k stands. e.done back k stands)
     (λ t. e.tells.written (c.close_as.ensures.speaks.trust.tells t)) c.close_as.ensures.written
-    (subst (λ (says : Reply → List ℕ). ClosesBy (V.state w) (says c.in-Ok.answer) (M.now m) (M.now c.close_as.new.m) (unit_of c.close_as.result)) c.requires.says (c.close_as.ensures.closing h))
+    (subst (λ (says : Reply → List ℕ). ClosesBy (V.state w) (says c.in-Ok.answer) (M.now m) (M.now c.close_as.new.m) (unit_of c.close_as.result)) c.requires.says (c.close_as.ensures.closing h)) (c.close_as.ensures.closed h)
 
 pub returns-in-Err-clause-heals : goal.returns-in-Err-clause-heals
 returns-in-Err-clause-heals g c h clean = tt

@@ -38,10 +38,21 @@ returns-clause-closes g c h k f stands on =
 -- ---- what is written
 
 pub returns-in_default-clause-written : goal.returns-in_default-clause-written
-returns-in_default-clause-written g c clean t = refl
+returns-in_default-clause-written g c clean = tt
 
 pub returns-in-Ok-close_and_say-clause-written : goal.returns-in-Ok-close_and_say-clause-written
-returns-in-Ok-close_and_say-clause-written g c clean t = c.in-Ok-close_and_say.ensures.written clean t
+returns-in-Ok-close_and_say-clause-written g c clean = c.in-Ok-close_and_say.ensures.written clean
 
 pub returns-clause-written : goal.returns-clause-written
-returns-clause-written g c clean t = c.in-Err.ensures.written clean t
+returns-clause-written g c clean = tt
+
+-- ---- what stands
+
+pub returns-in_default-clause-closed : goal.returns-in_default-clause-closed
+returns-in_default-clause-closed g c h = tt
+
+pub returns-in-Ok-close_and_say-clause-closed : goal.returns-in-Ok-close_and_say-clause-closed
+returns-in-Ok-close_and_say-clause-closed g c h = c.in-Ok-close_and_say.ensures.closed h
+
+pub returns-clause-closed : goal.returns-clause-closed
+returns-clause-closed g c h = tt

@@ -9,14 +9,14 @@ use Rattle.scrub.specs.Telling.{AreOfPage}
 use Rattle.volume_contract.specs.State.{State, forced_of}
 use Rattle.volume_turns.specs.declared.turns.Halt.{Halt}
 use Rattle.volume_turns.specs.declared.turns.Halt.TheVariants.{Fault as Stopped}
-use Rattle.volume_turns.specs.Answering.{MayAnswer}
+use Rattle.volume_turns.specs.Answering.{ClosesBy, MayAnswer}
 use Rattle.volume_turns.specs.Commands.{IsStatusFrom}
 use Rattle.volume_turns.specs.Once.{ClosesAndSays, unit_of}
 use Rattle.volume_turns.specs.Reasons.{BecauseUpgraded}
 use Rattle.volume_turns.specs.Steps.{Does}
 use Rattle.volume_turns.specs.Turns.{WantsNone}
 use Rattle.volume_turns.specs.Upgrade.{EndsState}
-use Rattle.volume_turns.proofs.AnsweringLaws.{says_so}
+use Rattle.volume_turns.proofs.AnsweringLaws.{alone_closed, says_so}
 use Rattle.volume_turns.proofs.LineLaws.{wants_not}
 use Rattle.volume_turns.proofs.LongerLaws.{wrote, wrote_none}
 use Rattle.volume_turns.proofs.OnceLaws.{alone_answered, alone_unbegun, answered_held}
@@ -133,6 +133,22 @@ returns-in-Ok-upgrade-clause-status g c =
     let done = ends_done (V.state c.args.v) (V.state c.upgrade.new.v) c.in-Ok-upgrade.answer (sym c.is_upgraded.ensures ∙ c.if-is_upgraded.false) c.in-Ok-upgrade.ensures.ends in
     status_at (IsStatusFrom Word.Upgrade) (reply_status c.in-Ok-upgrade.answer) c.close_as.result c.close_as.ensures.status
     (subst (λ (x : Reply). IsStatusFrom Word.Upgrade (reply_status x)) (sym done.0) refl)
+
+pub returns-in-Ok-upgrade-clause-answers : goal.returns-in-Ok-upgrade-clause-answers
+returns-in-Ok-upgrade-clause-answers g c h =
+    let V = g.V.Files in
+    let M = g.M.Machine in
+    let s = V.state c.args.v in
+    let t = V.state c.upgrade.new.v in
+    let m = c.upgrade.new.m in
+    let b = c.close_as.new.m in
+    let e = c.in-Ok-upgrade.ensures in
+    let close = c.close_as.ensures in
+    let back = close.speaks.trust.honest h in
+    let reply = c.in-Ok-upgrade.answer in
+    let done = ends_done s t reply (sym c.is_upgraded.ensures ∙ c.if-is_upgraded.false) e.ends in
+    alone_closed Word.Upgrade s t (M.now c.args.m.now) (M.now m) (e.disk.windows back) (e.disk.quiet back) (M.now b) reply c.close_as.result (ap (λ (x : State). x.layout) done.2) tt (e.tells.answers back) close.status
+    (subst (λ (says : Reply → List ℕ). ClosesBy t (says reply) (M.now m) (M.now b) (unit_of c.close_as.result)) c.requires.says (close.closing h))
 
 -- ---- a write of a root has failed
 
