@@ -65,7 +65,7 @@ impl Model for Log {
 
 impl Log {
     ghost use Rattle.std.specs.List.{list_any};
-    ghost use Rattle.std.specs.Prelude.{◌≡◌, ◌≤◌, ◌<◌, ◌↔◌, ◌+◌, ◌-◌, ◌*◌, ◌^◌, [], List, is_some, length, Some, None, Ok, Err, true, false, replicate, slice_index_or, IsTrue, IfErr, IfOk, IfSome, IfNone, OnOk, OnErr};
+    ghost use Rattle.std.specs.Prelude.{◌≡◌, ◌⊎◌, ◌≤◌, ◌<◌, ◌↔◌, ◌+◌, ◌-◌, ◌*◌, ◌^◌, [], List, is_some, length, Some, None, Ok, Err, true, false, replicate, slice_index_or, IsTrue, IfErr, IfOk, IfSome, IfNone, OnOk, OnErr};
     ghost use Rattle.sector_disk.specs.Calls.{OnlyReads, WritesDisk, device_in, failed_at, load_failed_at};
     ghost use Rattle.sector_disk.specs.declared.sector.Sector.{Sector};
     ghost use Rattle.sector_disk.specs.Image.{stand, IsWorn, open_damage};
@@ -473,6 +473,7 @@ impl Log {
         ensures writes { WritesDisk M.Machine (device_in failed_at result) (ClosesIn self.now.anchor) m.old m.new }
         ensures place { IfErr result (λ failed. (failed.place ≡ 8) ⊎ (failed.place ≡ 12)) }
         ensures counted { OnOk result (M.tells m.new → M.ledger m.new ≡ wrote (M.ledger m.old) 2) }
+        ensures least { M.tells m.new → (M.ledger m.old).written ≤ (M.ledger m.new).written }
         ensures most { M.tells m.new → (M.ledger m.new).written ≤ (M.ledger m.old).written + 2 }
         ensures done { OnOk result (M.honest m.new → Holds (M.now m.old) (with_closed self.now.anchor (M.now m.old).image 1 1) (M.now m.new)) }
     {
