@@ -6,12 +6,12 @@ use sector_disk::Sector;
 use std::alloc::{AllocError, Global};
 use std::test::Fail;
 
-// How a sector begins that goes on with zeros; of no bytes, that it is damaged.
-type Front<'a> = &'a [u8];
+/// How a sector begins that goes on with zeros; of no bytes, that it is damaged.
+pub(crate) type Front<'a> = &'a [u8];
 
-// A volume, the lines that are run on it, the sectors that read so from then on, the lines behind that, and how sectors
-// begin at the end.
-type Image<'a> = (
+/// A volume, the lines that are run on it, the sectors that read so from then on, the lines behind that, and how sectors
+/// begin at the end.
+pub(crate) type Image<'a> = (
     &'a str,
     &'a [Row<'a>],
     (&'a [usize], Front<'a>),
@@ -35,10 +35,10 @@ const GOT: Row<'static> = (GET, b"", 0, "x");
 
 const ROOT: &[u8] = b"CFSR\0\0\0\x01\0\0\x08\0\0\0\x01\0\0\0\0\x40";
 
-// The anchors of the epochs 2 and 3, and the last one of all.
-const ANCHOR: &[u8] = b"CFSA\0\0\0\x02\0\0\0\0\0\0\0\x01";
+// The anchors of volumes that were closed in the epochs 2 and 3, and the last one of all.
+pub(crate) const CLOSED: &[u8] = b"CFSA\0\0\0\x02\0\x01\0\0\0\0\0\x01";
 
-const NEXT_ANCHOR: &[u8] = b"CFSA\0\0\0\x03\0\0\0\0\0\0\0\x01";
+pub(crate) const CLOSED_NEXT: &[u8] = b"CFSA\0\0\0\x03\0\x01\0\0\0\0\0\x01";
 
 const LAST_ANCHOR: &[u8] = b"CFSA\xff\xff\xff\xff\0\0\0\0\0\0\0\x01";
 
@@ -46,7 +46,7 @@ const LAST_ANCHOR: &[u8] = b"CFSA\xff\xff\xff\xff\0\0\0\0\0\0\0\x01";
 const PAGE: &[u8] = b"CNPG\x01\0\0\x01\0\x1b\0\0\0\0\0\0\0\0\0\x02\0\0\0\x01";
 
 // A page of no kind, and one with a separator whose both children are page 0.
-const NO_PAGE: &[u8] = b"CNPG\x07\0\0\0\0\0\0\0\0\0\0\0\0\0\0\x01";
+pub(crate) const NO_PAGE: &[u8] = b"CNPG\x07\0\0\0\0\0\0\0\0\0\0\0\0\0\0\x01";
 
 const LEADING_BACK: &[u8] = b"CNPG\x02\0\0\x01\0\x35\0\0\0\0\0\0\0\0\0\x01\0\0\0\0\0\0\0\0\x01m\
     \0\0\0\0\0\0\0\0\0\0\0\0\0\0\0\0\0\0\0\0\0\0\0\0\0\0\0\0\0\0\0\0\0\0\0\0\0\0\0\0\0\0\x01";
@@ -158,8 +158,8 @@ const RECORDS: [Image<'static>; 4] = [
             (21, PAGE),
             (22, b"CLEN"),
             (783, b""),
-            (8, NEXT_ANCHOR),
-            (12, NEXT_ANCHOR),
+            (8, CLOSED_NEXT),
+            (12, CLOSED_NEXT),
         ],
     ),
     (
@@ -167,7 +167,7 @@ const RECORDS: [Image<'static>; 4] = [
         &[],
         (&[0, 12], b""),
         &[(LIST, b"", 0, "listed 0\n")],
-        &[(0, ROOT), (4, ROOT), (8, ANCHOR), (12, ANCHOR)],
+        &[(0, ROOT), (4, ROOT), (8, CLOSED), (12, CLOSED)],
     ),
 ];
 
@@ -267,8 +267,8 @@ const PARTED: [Image<'static>; 2] = [
     ),
 ];
 
-// The sector that begins so.
-fn sector(front: Front) -> Sector {
+/// The sector that begins so.
+pub(crate) fn sector(front: Front) -> Sector {
     if front.is_empty() {
         return Sector::Damaged;
     }
@@ -288,8 +288,8 @@ fn begin_so(image: &[Sector], fronts: &[(usize, Front)]) -> bool {
     })
 }
 
-// The first image that does not go so.
-fn first_wrong_image(alloc: Global, images: &[Image]) -> Result<Option<usize>, AllocError> {
+/// The first image that does not go so.
+pub(crate) fn first_wrong_image(alloc: Global, images: &[Image]) -> Result<Option<usize>, AllocError> {
     for (i, (format, before, (places, front), behind, fronts)) in images.iter().enumerate() {
         let (m, early) = first_wrong(alloc, calm(alloc, formatted(alloc, format)?), before)?;
         let mut image = m.image().to_vec(alloc)?;

@@ -29,6 +29,8 @@ mod prefixes;
 #[cfg(test)]
 mod runs;
 #[cfg(test)]
+mod saving;
+#[cfg(test)]
 mod scripts;
 #[cfg(test)]
 mod stops;

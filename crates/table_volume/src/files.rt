@@ -193,6 +193,18 @@ impl<M: Machine> Files<M> for Volume {
         }
     }
 
+    fn read_entry(
+        &mut self,
+        m: &mut M,
+        e: &Entry,
+        from: u32,
+        buf: &mut [u8],
+    ) -> Result<u32, Refusal> {
+        self.attest();
+        self.is_up()?;
+        read_version(m, e, from, buf)
+    }
+
     fn stat(&self) -> Stat {
         Stat {
             sectors: self.layout.sectors(),

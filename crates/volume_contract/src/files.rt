@@ -346,6 +346,25 @@ pub trait Files<M: Machine>: Sized {
         ensures stands { M.honest m.new → (k : Known) → Stands state holds self.old k (M.now m.old) → Stands state holds self.new k (M.now m.new) }
         ensures sees { IfOk result (λ seen. M.honest m.new → Sees (slice_place e.now slice) (M.now m.old).image (M.now m.new).image seen) };
 
+    /// Reads bytes of a version by its entry, from a place on, as many as there are and the buffer has room for. Nothing is
+    /// looked up, and it takes no memory.
+    fn read_entry(
+        &mut self,
+        m: &mut M,
+        e: &Entry,
+        from: u32,
+        buf: &mut [u8],
+    ) -> Result<u32, Refusal>
+        requires room { (state self.old).layout.sectors ≤ (M.report m.old).sectors }
+        requires met { IsMet (state self.old) e.now }
+        ensures order { InOrder (held_steps (state self.old)) m.old m.new result }
+        ensures disk { OnlyReads M.Machine (device_in device_of result) m.old m.new }
+        ensures state { state self.new ≡ state self.old }
+        ensures stands { M.honest m.new → (k : Known) → Stands state holds self.old k (M.now m.old) → Stands state holds self.new k (M.now m.new) }
+        ensures tells { TellsHeld M.Machine (state self.old).layout e.now.length from (length buf.old) m.new result }
+        ensures done { M.honest m.new → (k : Known) → Stands state holds self.old k (M.now m.old) → entry_of e.now.key (volume_of k).entries ≡ Some e.now →
+            ReadsRange (M.now m.old).image (M.now m.new).image (file_of key_cmp e.now.key (volume_of k).files) (Some e.now) from buf.old buf.new result };
+
     /// What it counts; a volume that is down counts too.
     fn stat(&self) -> Stat
         ensures size { result.sectors ≡ (state self.now).layout.sectors }

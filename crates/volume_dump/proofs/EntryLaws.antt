@@ -63,9 +63,9 @@ written_front (suc n) zero xs ys le within = absurd (omega (arith, le))
 written_front (suc n) (suc m) [] ys le within = absurd (omega (arith, within))
 written_front (suc n) (suc m) (x ∷ xs) ys le within = ap (λ (zs : List ℕ). x ∷ zs) (written_front n m xs ys (omega (arith, le)) (omega (arith, within)))
 
-module _ (i j : Image) (v : Volume) (e : Entry) (there : entry_of e.key v.entries ≡ Some e) (old new : List ℕ) where
-  pub read_whole : (n : ℕ) → length old ≡ e.length → ReadsRange i j (find key_cmp e.key v.files) (entry_of e.key v.entries) 0 old new (Ok n) → take n new ≡ bytes_found (find key_cmp e.key v.files)
-  read_whole n room reads = by (find key_cmp e.key v.files) (subst (λ (o : Option Entry). ReadsRange i j (find key_cmp e.key v.files) o 0 old new (Ok n)) there reads)
+module _ (i j : Image) (v : Volume) (e : Entry) (old new : List ℕ) where
+  pub read_whole : (n : ℕ) → length old ≡ e.length → ReadsRange i j (find key_cmp e.key v.files) (Some e) 0 old new (Ok n) → take n new ≡ bytes_found (find key_cmp e.key v.files)
+  read_whole n room reads = by (find key_cmp e.key v.files) reads
     where
       by : (o : Option File) → ReadsRange i j o (Some e) 0 old new (Ok n) → take n new ≡ bytes_found o
       by None reads = absurd reads
@@ -75,8 +75,8 @@ module _ (i j : Image) (v : Volume) (e : Entry) (there : entry_of e.key v.entrie
           let all : n ≡ length file.bytes = omega (arith, count, len, room) in
           ap (take n) reads.bytes ∙ taken_all n file.bytes (drop n old) all
 
-  pub read_not : (why : Refusal) → ReadsRange i j (find key_cmp e.key v.files) (entry_of e.key v.entries) 0 old new (Err why) → IsUnread e j (told_as why)
-  read_not why reads = by (find key_cmp e.key v.files) why (subst (λ (o : Option Entry). ReadsRange i j (find key_cmp e.key v.files) o 0 old new (Err why)) there reads)
+  pub read_not : (why : Refusal) → ReadsRange i j (find key_cmp e.key v.files) (Some e) 0 old new (Err why) → IsUnread e j (told_as why)
+  read_not why reads = by (find key_cmp e.key v.files) why reads
     where
       in_front : (n : ℕ) (xs : List ℕ) (s : ℕ) → Contains (take n xs) s → Contains xs s
       in_front n xs s is = subst (λ (ys : List ℕ). Contains ys s) (take-append-drop n xs) (Contains-append_left (take n xs) (drop n xs) s is)

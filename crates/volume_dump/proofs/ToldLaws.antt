@@ -9,7 +9,7 @@ use Rattle.sector_disk.specs.declared.sector.Sector.TheVariants.{Damaged}
 use Rattle.sector_disk.specs.Image.{sector_at}
 use Rattle.fsd_files.specs.Disk.{Image}
 use Rattle.volume_contract.specs.Ends.{device_of}
-use Rattle.volume_contract.specs.Order.{Comes, next_steps}
+use Rattle.volume_contract.specs.Order.{Comes, IsData, held_steps, next_steps}
 use Rattle.volume_contract.specs.State.{State}
 use Rattle.scrub.specs.Telling.{TellsOn}
 use Rattle.volume_dump.specs.declared.fault.DumpFault.{DumpFault}
@@ -35,6 +35,22 @@ pub next_comes : (s : State) (why : Refusal) → Comes (next_steps s) why → Co
 next_comes s why (inl here) = inl here
 next_comes s why (inr (passes, inl looks)) = inr (passes, inl looks)
 next_comes s why (inr (passes, inr later)) = absurd later.1
+
+-- and a read by an entry behind it
+pub read_comes : (s : State) (why : Refusal) → Comes (held_steps s) why → Comes (dump_steps s) why
+read_comes s why (inl here) = inl here
+read_comes s why (inr later) = inr (later.0, inr (tt, later.1))
+
+-- which is refused neither for want of memory nor for its page
+pub read_told : (s : State) (why : Refusal) (l : Layout) (i : Image) → s.down ≡ None → Comes (held_steps s) why → TellsOn l i why
+read_told s why l i up (inl here) = absurd (let down = ap (λ (d : Option ℕ). d) up in cc (here, up))
+read_told s why l i up (inr (passes, inl cause)) = by why cause
+  where
+    by : (why : Refusal) → IsData why → TellsOn l i why
+    by (Why.Device t) cause = tt
+    by (Why.Damaged t) cause = tt
+    by why cause = absurd cause
+read_told s why l i up (inr (passes, inr later)) = absurd later.1
 
 -- and tells no data sector
 pub undamaged : (s : State) (why : Refusal) → Comes (next_steps s) why → (t : ℕ) → why ≡ Why.Damaged t → ⊥

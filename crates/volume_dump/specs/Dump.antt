@@ -19,7 +19,7 @@ use Rattle.fsd_sound.specs.Mounted.{Mounted}
 use Rattle.fsd_runs.specs.declared.span.Span.{Span}
 use Rattle.fsd_runs.specs.Dumps.{AreWhole, IsSpoiltAt, chosen, dump_of}
 use Rattle.volume_contract.specs.Ends.{device_of}
-use Rattle.volume_contract.specs.Order.{Asks, CallStep, Comes, Data, LookUp, Through, down}
+use Rattle.volume_contract.specs.Order.{CallStep, Comes, Data, LookUp, Through, down}
 use Rattle.volume_contract.specs.State.{Known, Stands, State, volume_of}
 use Rattle.scrub.specs.Looking.{AreDamaged}
 use Rattle.scrub.specs.Telling.{TellsOn}
@@ -28,9 +28,8 @@ use Rattle.volume_dump.specs.declared.fault.DumpFault.TheVariants.{Refused, Foun
 
 -- ---- over any machine
 
--- pages that change between the two readings may lack a version that they have shown
 abbrev pub dump_steps : State → List CallStep
-dump_steps s = down s ∷ LookUp ∷ Asks Why.NoSuch ∷ Data ∷ []
+dump_steps s = down s ∷ LookUp ∷ Data ∷ []
 
 -- a refusal is told as one, but for want of memory and a damaged sector
 abbrev pub RefusesSo : State → Refusal → Type 0

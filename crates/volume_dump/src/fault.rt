@@ -9,8 +9,8 @@ use thiserror::Error;
 #[derive(Debug, Drop, Error)]
 pub enum DumpFault {
     /// The volume is down, the device has failed, both copies of what stands twice are damaged (the root's, the anchor's,
-    /// or a name page's), a page breaks the name table, or pages that have changed lack a version at the second reading:
-    /// Down, Device, Lost, Unsound or NoSuch, and no other. A volume that stands gives Device alone.
+    /// or a name page's), or a page breaks the name table: Down, Device, Lost or Unsound, and no other. A volume that
+    /// stands gives Device alone.
     #[error("{0}")]
     Refused(Refusal),
     /// These data sectors are damaged, by key and then by place in the file. Nothing was said.

@@ -49,7 +49,7 @@ fn say_item<M: Machine>(m: &mut M, e: &Entry, bytes: &[u8]) -> Result<(), DumpFa
     }
 }
 
-// Reads all bytes of a version.
+// Reads all bytes of a version by its entry.
 fn read_version<M: Machine, V: Files<M>>(
     alloc: Global,
     v: &mut V,
@@ -58,6 +58,7 @@ fn read_version<M: Machine, V: Files<M>>(
 ) -> Result<Vec<u8>, DumpFault>
     requires room { (V.state v.old).layout.sectors ≤ (M.report m.old).sectors }
     requires up { (V.state v.old).down ≡ None }
+    requires met { IsMet (V.state v.old) e.now }
     ensures order { FollowsDump (V.state v.old) result }
     ensures reads { ReadsVolume M.Machine V.state V.holds (device_in_dump result) v.old v.new m.old m.new }
     ensures unsaid { is_unsaid_dump result ≡ false }
@@ -68,7 +69,7 @@ fn read_version<M: Machine, V: Files<M>>(
     let Ok(mut bytes) = vec![in alloc; 0u8; e.length as usize] else {
         return Err(DumpFault::Memory);
     };
-    match v.read(m, &e.key, 0, &mut bytes) {
+    match v.read_entry(m, e, 0, &mut bytes) {
         Ok(count) => {
             bytes.truncate(count as usize);
             Ok(bytes)

@@ -197,6 +197,12 @@ both_kept i hurt key (v ∷ s) (e ∷ entries) lists kept =
     subst (λ (b : Bool). AreBothKept i hurt (cond (eq_by_cmp key_cmp key v.0) (Some v.1) (find key_cmp key s)) (cond b (Some e) (entry_of key entries))) same
     (both_chosen i hurt (eq_by_cmp key_cmp key v.0) v.1 e (find key_cmp key s) (entry_of key entries) (lists.0.length, kept.0) (both_kept i hurt key s entries lists.1 kept.1))
 
+-- a version of this entry is there
+pub reads_there : (i j : Image) (hurt : Sectors) (file : Option File) (e : Entry) (from : ℕ) (old new : List ℕ) (r : Result ℕ Refusal) → AreBothKept i hurt file (Some e)
+    → ((f : File) → e.length ≡ length f.bytes → KeptIn i hurt f.bytes e.runs → ReadsRange i j (Some f) (Some e) from old new r) → ReadsRange i j file (Some e) from old new r
+reads_there i j hurt None e from old new r kept so = absurd kept
+reads_there i j hurt (Some f) e from old new r kept so = so f kept.0 kept.1
+
 -- ---- as the call began
 
 module _ (may : ℕ → Bool) (i mid j : Image) (worn : IsWorn may i mid) where

@@ -39,7 +39,6 @@ abbrev pub IsOfDump : Refusal → Type 0
 IsOfDump (Why.Device s) = Unit {0}
 IsOfDump (Why.Lost a b) = Unit {0}
 IsOfDump (Why.Unsound s) = Unit {0}
-IsOfDump Why.NoSuch = Unit {0}
 IsOfDump other = ⊥
 
 module _ (s : State) (up : s.down ≡ None) where
@@ -63,9 +62,8 @@ module _ (s : State) (up : s.down ≡ None) where
   by_steps : (why : Refusal) → RefusesSo s why → Comes (dump_steps s) why → IsOfDump why
   by_steps why so (inl test) = absurd (let down = ap (λ (d : Option ℕ). d) up in cc (test, up))
   by_steps why so (inr (p, inl look)) = look_up why so look
-  by_steps why so (inr (p, inr (q, inl none))) = subst IsOfDump (sym none) tt
-  by_steps why so (inr (p, inr (q, inr (r, inl read)))) = data_read why so read
-  by_steps why so (inr (p, inr (q, inr (r, inr (u, none))))) = absurd none
+  by_steps why so (inr (p, inr (q, inl read))) = data_read why so read
+  by_steps why so (inr (p, inr (q, inr (r, none)))) = absurd none
 
   pub of_dump : (why : Refusal) → RefusesSo s why → IsOfDump why
   of_dump why so = by_steps why so (comes why so)
