@@ -473,6 +473,7 @@ impl Log {
         ensures writes { WritesDisk M.Machine (device_in failed_at result) (ClosesIn self.now.anchor) m.old m.new }
         ensures place { IfErr result (λ failed. (failed.place ≡ 8) ⊎ (failed.place ≡ 12)) }
         ensures counted { OnOk result (M.tells m.new → M.ledger m.new ≡ wrote (M.ledger m.old) 2) }
+        ensures least { M.tells m.new → (M.ledger m.old).written ≤ (M.ledger m.new).written }
         ensures most { M.tells m.new → (M.ledger m.new).written ≤ (M.ledger m.old).written + 2 }
         ensures done { OnOk result (M.honest m.new → Holds (M.now m.old) (with_closed self.now.anchor (M.now m.old).image 1 1) (M.now m.new)) }
     {

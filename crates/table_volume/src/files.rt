@@ -254,9 +254,6 @@ impl<M: Machine> Files<M> for Volume {
     }
 
     fn close(mut self, m: &mut M) -> Result<(), Refusal> {
-        match self.force_all(m) {
-            Ok(_) => Ok(()),
-            Err(refusal) => Err(refusal),
-        }
+        self.close_all(m)
     }
 }

@@ -9,6 +9,7 @@ ghost use Rattle.volume_contract.specs.Order.{InOrder, force_steps};
 ghost use Rattle.volume_contract.specs.State.{Known, Leaves, Stands, WritesWithin, force_len, volume_of};
 ghost use Rattle.volume_contract.specs.Telling.{TellsForce};
 ghost use Rattle.volume_laws.specs.Forcing.{force_refusal, down_place};
+ghost use Rattle.volume_laws.specs.Saving.{LeavesOpen};
 ghost use Rattle.volume_laws.specs.State.{IsMemoryOf, resident, state};
 ghost use Rattle.table_volume.specs.Forces.{KeepsOverForce};
 
@@ -45,6 +46,7 @@ impl Volume {
         requires { (state self.old).layout.sectors ≤ (M.report m.old).sectors }
         ensures order { InOrder (force_steps (state self.old)) m.old m.new result }
         ensures disk { WritesDisk M.Machine (device_in device_of result) (Leaves state IsMemoryOf self.old (force_writes (state self.old).layout)) m.old m.new }
+        ensures opened { WritesDisk M.Machine (device_in device_of result) (LeavesOpen self.old) m.old m.new }
         ensures writes { WritesWithin M.Machine (force_writes (state self.old).layout) (force_len (state self.old)) m.old m.new result }
         ensures keeps { KeepsOverForce self.old self.new result }
         ensures tells { TellsForce M.Machine (resident self.old) (state self.old) (state self.new) m.old m.new (resident self.new) result }

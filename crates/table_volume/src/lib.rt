@@ -1,6 +1,7 @@
 //! A volume whose files stand in a name table of many pages, which are read through a cache.
 #![tactic(auto)]
 
+mod closing;
 mod completing;
 mod deleting;
 mod entries;

@@ -1,6 +1,6 @@
 -- What a force leaves of the disk of a volume that stands over it: at each moment its pages are those of before or the stamped ones, which tell the
 -- same table.
-use Rattle.std.proofs.Common.{◌≡◌, inl, inr, ⊎_elim, ℕ, ◌≤◌, true, List, [], ◌∷◌, length, Some, None, refl, sym, ap, subst, ◌∙◌, arith}
+use Rattle.std.proofs.Common.{◌≡◌, inl, inr, ⊎_elim, ℕ, ◌≤◌, Bool, true, ◌&&◌, nat_lt, List, [], ◌∷◌, length, Some, None, refl, sym, ap, subst, ◌∙◌, arith}
 use Rattle.std.specs.Prelude.{IsFalse}
 use Rattle.std.specs.List.{last_or}
 use Rattle.std.proofs.lemmas.Bool.{eq-eqb, or_left, or_right, le-leb, lt-ltb, and_from}
@@ -29,6 +29,7 @@ use Rattle.group_commit.proofs.CleanLaws.{stands_ascending}
 use Rattle.group_commit.proofs.ImageLaws.{pages_of}
 use Rattle.fsd_sound.specs.Writes.{force_writes}
 use Rattle.volume_contract.specs.State.{Known, Leaves, LeavesSound, Stands, forced_of}
+use Rattle.volume_laws.specs.Saving.{LeavesOpen, may_force}
 use Rattle.volume_laws.specs.State.{IsMemoryOf, state}
 use Rattle.volume_laws.specs.Volume.{IsWholeVolume, VolumeValue}
 use Rattle.volume_laws.proofs.PageLaws.{indexed, over}
@@ -158,3 +159,28 @@ module _ (v : VolumeValue) (k : Known) (old : Moment) (whole : IsWholeVolume v) 
 -- what a force of the cache's pages leaves is sound
 pub leaves_forced : (v : VolumeValue) (old left : Moment) → IsWholeVolume v → IsCache v.cache → CacheLeaves v.log v.cache old left → Leaves state IsMemoryOf v (force_writes v.layout) old left
 leaves_forced v old left whole valid leaves k stands = leaves_sound v k old whole valid stands left leaves
+
+-- ---- no anchor says that the volume was closed
+
+pub open_itself : (v : VolumeValue) (at : Moment) → LeavesOpen v at at
+open_itself v at k stands =
+    let still = leaves_itself v at k stands in
+    record {
+      sound = record { sound = still.sound; roots = still.roots; windows = refl; said = refl; touches = touches_none (may_force (state v)) at };
+      opened = stands.disk.over.own.opened;
+    }
+
+pub open_forced : (v : VolumeValue) (old left : Moment) → IsWholeVolume v → IsCache v.cache → 1 ≤ length v.cache.dirty → CacheLeaves v.log v.cache old left → LeavesOpen v old left
+open_forced v old left whole valid some leaves k stands =
+    let sound = leaves_sound v k old whole valid stands left leaves in
+    let waits : nat_lt 0 (length v.cache.dirty) ≡ true = lt-ltb 0 (length v.cache.dirty) (omega (arith, some)) in
+    record {
+      sound = record {
+        sound = sound.sound;
+        roots = sound.roots;
+        windows = sound.windows;
+        said = sound.said;
+        touches = record { size = sound.touches.size; others = λ s out. sound.touches.others s (ap (λ (b : Bool). b && force_writes v.layout s) (sym waits) ∙ out) };
+      };
+      opened = (commits v k old whole valid stands left leaves).opened;
+    }

@@ -50,7 +50,7 @@ sectors_joined s (r ∷ runs) = by (s + 1 == r.start) refl
         ap (λ (xs : List ℕ). xs ++ sectors_of runs) (ap (range_with_len s) longer ∙ ap (λ (n : ℕ). s ∷ range_with_len n r.length) (eqb-true (s + 1) r.start e))
     by false e = refl
 
-sectors_of_runs : (xs : List ℕ) → sectors_of (runs_of xs) ≡ xs
+pub sectors_of_runs : (xs : List ℕ) → sectors_of (runs_of xs) ≡ xs
 sectors_of_runs [] = refl
 sectors_of_runs (s ∷ xs) = sectors_joined s (runs_of xs) ∙ ap (λ (ys : List ℕ). s ∷ ys) (sectors_of_runs xs)
 

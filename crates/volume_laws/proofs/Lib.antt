@@ -7,6 +7,7 @@ pub mod ChangeEnds
 pub mod ChangeLaws
 pub mod ClearedLaws
 pub mod CloseLaws
+pub mod ClosingLaws
 pub mod CompleteLaws
 pub mod CountLaws
 pub mod CountedLaws
@@ -49,6 +50,7 @@ pub mod LogLaws
 pub mod LoggedLaws
 pub mod MadeLaws
 pub mod MakingLaws
+pub mod MapLaws
 pub mod MemoryLaws
 pub mod MetCauses
 pub mod MomentLaws

@@ -1,8 +1,8 @@
 -- A volume that has nothing to force writes its map, and then says in both copies of its anchor that it was closed: at each
 -- moment its disk is sound, and at the end it has closed.
-use Rattle.std.proofs.Common.{◌≡◌, ◌≢◌, ◌⊎◌, inl, inr, ⊎_elim, ℕ, zero, suc, ◌+◌, ◌-◌, ◌^◌, ◌<◌, ◌≤◌, Bool, true, false, not, ◌&&◌, cond, List, [], ◌∷◌, length, map, Some, refl, sym, ap, subst, ◌∙◌, arith}
+use Rattle.std.proofs.Common.{◌≡◌, ◌≢◌, ◌⊎◌, inl, inr, ⊎_elim, ℕ, zero, suc, ◌+◌, ◌-◌, ◌^◌, ◌<◌, ◌≤◌, Bool, true, false, not, ◌&&◌, ◌||◌, ◌==◌, cond, List, [], ◌∷◌, length, map, Some, refl, sym, ap, subst, ◌∙◌, arith}
 use Rattle.std.specs.Prelude.{IsFalse, IsTrue, count_by, nat_le, nat_lt, slice_index_or}
-use Rattle.std.proofs.lemmas.Bool.{and_from, and_parts, both_ways, cases_lt, le-leb, leb-true, lt-ltb, ltb-true, false_from_ne_true, or_left, or_parts}
+use Rattle.std.proofs.lemmas.Bool.{and_from, and_parts, both_ways, cases_lt, eq-eqb, le-leb, leb-true, lt-ltb, ltb-true, false_from_ne_true, or_left, or_parts}
 use Rattle.std.proofs.lemmas.List.{get_or-map, length-map}
 use Rattle.std.proofs.lemmas.List.Sums.{count_by-le-length, sum_by-cons}
 use Rattle.std.proofs.lemmas.Option.{slice_get-get_or}
@@ -39,7 +39,7 @@ use Rattle.fsd_sound.specs.Saved.{is_reached}
 use Rattle.fsd_sound.specs.Shown.{records_by, told}
 use Rattle.fsd_sound.specs.Sound.{IsSound, weak_of}
 use Rattle.fsd_sound.specs.Windows.{IsNarrow}
-use Rattle.fsd_sound.specs.Writes.{close_writes, force_writes, in_map}
+use Rattle.fsd_sound.specs.Writes.{in_map, saving_writes}
 use Rattle.fsd_sound.proofs.ClosingLaws.{ClosesAnchors, MapTells, area_behind, closes_both, closes_first, closes_none_yet, closes_sound, map_may_be_written, map_tells_on, saved_tells}
 use Rattle.fsd_sound.proofs.FrontLaws.{SameFront}
 use Rattle.fsd_sound.proofs.MarkedLaws.{FitsHeads, TestTells, marked_has_saved}
@@ -82,10 +82,10 @@ module _ (v : VolumeValue) (sector : ℕ → List ℕ) (old left : Moment) (save
     ]
   ]
 
-  touches_map : Touches (close_writes v.layout) old left
+  pub touches_map : Touches (saving_writes v.layout) old left
   touches_map = record {
     size = saves.holds.worn.size ∙ size;
-    others = λ s out. subst (λ (x : Sector). SectorWorn (open_damage old.windows s) x (sector_at left.image s)) (same s (beside_map s (or_parts (force_writes v.layout s) (in_map v.layout s) out).1)) (saves.holds.worn.each s);
+    others = λ s out. subst (λ (x : Sector). SectorWorn (open_damage old.windows s) x (sector_at left.image s)) (same s (beside_map s (or_parts (in_map v.layout s) (s == 8) (or_parts (in_map v.layout s || (s == 8)) (s == 12) out).0).0)) (saves.holds.worn.each s);
   }
 
   module _ (short : AreShort old.windows) (k : Known) (stands : Stands state IsMemoryOf v k old) where
@@ -118,7 +118,7 @@ module _ (v : VolumeValue) (sector : ℕ → List ℕ) (old left : Moment) (save
     stands_saving = stands_worn v k (record old { image = written }) left short (record { image = saves.holds.worn; windows = saves.holds.windows }) stands_written
 
     -- and a stop leaves a sound disk
-    pub saving_leaves : LeavesSound k (close_writes v.layout) old left
+    pub saving_leaves : LeavesSound k (saving_writes v.layout) old left
     saving_leaves = record {
       sound = mounted_sound k.mounted k.windows k.changes (forced_of k) left.image stands_saving.disk;
       roots = stands_saving.disk.over.own.roots;
@@ -243,6 +243,13 @@ module _ (v : VolumeValue) (k : Known) (old : Moment) (whole : IsWholeVolume v) 
 
 -- ---- its anchors are closed
 
+-- an anchor lies where a saving writes
+pub no_anchor : (l : Layout) (s : ℕ) → IsFalse (saving_writes l s) → (s ≢ 8) × (s ≢ 12)
+no_anchor l s out =
+    let second = or_parts (in_map l s || (s == 8)) (s == 12) out in
+    let first = or_parts (in_map l s) (s == 8) second.0 in
+    (λ e. both_ways (s == 8) first.1 (eq-eqb s 8 e), λ e. both_ways (s == 12) second.1 (eq-eqb s 12 e))
+
 module _ (v : VolumeValue) (k : Known) (mid : Moment) (stands : Stands state IsMemoryOf v k mid) (forced : k.mounted.volume.unforced ≡ 0) (has : HasMap k mid) where
   narrow : IsNarrow (weak_of k.windows)
   narrow = borne_narrow k.mounted.volume.layout k.windows stands.disk.over.shows.readable.borne
@@ -294,18 +301,14 @@ module _ (v : VolumeValue) (k : Known) (mid : Moment) (stands : Stands state IsM
       has_on (weak_of k.windows) closed left.image (root_bytes k.mounted.volume.layout) 4 (worn.each 4) by_copy.roots.1,
     )
 
-    -- where a close does not write
-    elsewhere : (s t : ℕ) → IsFalse (close_writes v.layout s) → IsTrue (close_writes v.layout t) → s ≢ t
-    elsewhere s t out there e = both_ways (close_writes v.layout t) (subst (λ (n : ℕ). IsFalse (close_writes v.layout n)) e out) there
-
-    touches : Touches (close_writes v.layout) mid left
+    touches : Touches (saving_writes v.layout) mid left
     touches = record {
       size = wears.size ∙ by_copy.size;
-      others = λ s out. subst (λ (x : Sector). SectorWorn (open_damage mid.windows s) x (sector_at left.image s)) (by_copy.others s (elsewhere s 8 out refl) (elsewhere s 12 out refl)) (wears.each s);
+      others = λ s out. subst (λ (x : Sector). SectorWorn (open_damage mid.windows s) x (sector_at left.image s)) (by_copy.others s (no_anchor v.layout s out).0 (no_anchor v.layout s out).1) (wears.each s);
     }
 
   -- a stop leaves a sound disk
-  pub closing_leaves : (left : Moment) → ClosesIn v.log.anchor mid left → LeavesSound k (close_writes v.layout) mid left
+  pub closing_leaves : (left : Moment) → ClosesIn v.log.anchor mid left → LeavesSound k (saving_writes v.layout) mid left
   closing_leaves left closing = record {
     sound = sound closing.first closing.copy closing.in_order closing.once left closing.holds;
     roots = roots closing.first closing.copy closing.in_order closing.once left closing.holds;

@@ -8,6 +8,7 @@ pub mod Grown
 pub mod Meeting
 pub mod Placing
 pub mod Preparing
+pub mod Saving
 pub mod State
 pub mod Steps
 pub mod Taken

@@ -21,6 +21,7 @@ use Rattle.volume_contract.specs.declared.files.Forced.{Forced}
 use Rattle.run_table.specs.Space.{contains}
 use Rattle.volume_contract.specs.Order.{Force, IsLoss, Test, force_steps, is_idle}
 use Rattle.volume_laws.specs.Forcing.{force_refusal as refusal_of, down_place}
+use Rattle.volume_laws.specs.Saving.{LeavesOpen}
 use Rattle.volume_laws.specs.State.{IsMemoryOf, resident, state}
 use Rattle.volume_laws.specs.Volume.{VolumeValue}
 use Rattle.volume_laws.specs.Taken.{down_fault}
@@ -29,7 +30,7 @@ use Rattle.volume_laws.proofs.FailedLaws.{failed_cause, failed_counted, failed_n
 use Rattle.volume_laws.proofs.ForceLeavesLaws.{down_tells_none, tells_place}
 use Rattle.volume_laws.proofs.ForceCountLaws.{forced_count}
 use Rattle.volume_laws.proofs.ForceEndLaws.{ends_failed, ends_forced, ends_idle, forced_to, not_down}
-use Rattle.volume_laws.proofs.ForceMomentLaws.{agrees, commits, force_touches, knows, leaves_forced, leaves_itself, over_waiting, touches_none}
+use Rattle.volume_laws.proofs.ForceMomentLaws.{agrees, commits, force_touches, knows, leaves_forced, leaves_itself, open_forced, open_itself, over_waiting, touches_none}
 use Rattle.volume_laws.proofs.ForcedLaws.{whole_down, whole_forced}
 use Rattle.volume_laws.proofs.KeptLaws.{idle_forced, is_forced, kept_down}
 use Rattle.volume_laws.proofs.MemoryLaws.{forced_content}
@@ -73,6 +74,7 @@ returns-in_err-is_up g c =
     rw (p.1, p.2) (record {
       order = record { follows = inl refused; idle = λ idle. refl };
       disk = writes_told (down_tells_none v.down why down) (writes_none at (λ left h is. g.met.M.Machine.only_now at left h is) (Leaves state IsMemoryOf v (force_writes v.layout)) (λ h. leaves_itself v now));
+      opened = writes_told (down_tells_none v.down why down) (writes_none at (λ left h is. g.met.M.Machine.only_now at left h is) (LeavesOpen v) (λ h. open_itself v now));
       writes = record { rest = λ h. touches_none (force_writes v.layout) now; counted = λ tells. (omega arith, omega arith) };
       keeps = record { by_steps = record { state = record { layout = refl; epoch = refl; unfinished = refl; readers = refl; down = inl refl }; kept = inl (refused, refl) }; resident = tt };
       tells = record { pages = tt; pages_kept = tt; logged = tt; causes = λ h. none; lost = λ h. none; behind = tt; unwritten = λ tells never. refl };
@@ -93,6 +95,7 @@ returns-then-len-eq0 g c =
     record {
       order = record { follows = (ap (option_map Why.Down) (up_by w.down (sym c.in_ok-is_up.ensures)), (tt, tt)); idle = λ idle. refl };
       disk = writes_none at (λ left h is. g.met.M.Machine.only_now at left h is) (Leaves state IsMemoryOf w (force_writes w.layout)) (λ h. leaves_itself w now);
+      opened = writes_none at (λ left h is. g.met.M.Machine.only_now at left h is) (LeavesOpen w) (λ h. open_itself w now);
       writes = record {
         rest = λ h. touches_none (force_writes w.layout) now;
         counted = λ tells. let len : force_len (state w) ≡ 0 = ap (λ (dirty : List ℕ). force_len (record (state w) { dirty = dirty })) nil_now in omega (arith, len);
@@ -174,6 +177,7 @@ returns-in-Ok g c =
     rw (sym c.self.view_is) (record {
       order = record { follows = (ap (option_map Why.Down) up, (tt, tt)); idle = λ idle. absurd (busy (state v) up some idle) };
       disk = writes_more call.disk (λ h left leaves. leaves_forced v old left c.self.invariant valid leaves);
+      opened = writes_more call.disk (λ h left leaves. open_forced v old left c.self.invariant valid some leaves);
       writes = record {
         rest = λ h. force_touches v old new c.self.invariant (call.rest h);
         counted = λ tells. forced.counted tells ∙ ap (λ n. (M.ledger c.args.m.now).written + n) (forced_count v v refl c.self.invariant some);
@@ -229,6 +233,7 @@ returns-in-Err g c =
         idle = λ idle. absurd (busy (state v) up some idle);
       };
       disk = writes_told (ap device_of told ∙ tells_place f) (writes_more call.disk (λ h left leaves. leaves_forced v old left c.self.invariant valid leaves));
+      opened = writes_told (ap device_of told ∙ tells_place f) (writes_more call.disk (λ h left leaves. open_forced v old left c.self.invariant valid some leaves));
       writes = record {
         rest = λ h. force_touches v old new c.self.invariant (call.rest h);
         counted = λ tells. failed_counted v v refl c.self.invariant some (M.ledger c.args.m.now) (M.ledger c.force_cached.new.m) (failed.write.counted tells);
