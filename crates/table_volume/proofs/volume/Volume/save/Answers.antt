@@ -1,4 +1,4 @@
-use Rattle.std.proofs.Common.{◌≡◌, ◌+◌, ◌^◌, ◌<◌, ◌≤◌, ℕ, Bool, List, length, rules, sym, ap, subst, ◌∙◌, arith}
+use Rattle.std.proofs.Common.{◌≡◌, ◌^◌, ◌<◌, ◌≤◌, ℕ, Bool, List, length, rules, sym, ap, subst, ◌∙◌, arith}
 use Rattle.std.specs.Prelude.{IsTrue}
 use Rattle.std.proofs.lemmas.Result.{err_from_is_err_and, on_ok_weaker}
 use Rattle.volume_layout.specs.declared.layout.Layout.{Layout}
@@ -9,7 +9,6 @@ use Rattle.sector_disk.proofs.CallLaws.{writes_more, writes_then}
 use Rattle.fsd_sound.specs.Writes.{in_map}
 use Rattle.log_thirds.specs.Anchoring.{ClosesIn, with_closed}
 use Rattle.saved_map.specs.Saving.{SavesIn, saved, with_map}
-use Rattle.volume_laws.specs.State.{state}
 use Rattle.volume_laws.specs.Volume.{IsWholeVolume, VolumeValue}
 use Rattle.volume_laws.proofs.ForcedLaws.{from_is, to_is}
 use Rattle.volume_laws.proofs.MapLaws.{anchor_told, counted_map, has_saved, leaves_anchors, leaves_map, map_place, map_stands, saved_closes, sector, touches_saved}

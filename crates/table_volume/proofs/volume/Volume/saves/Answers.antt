@@ -1,6 +1,5 @@
-use Rattle.std.proofs.Common.{◌≡◌, ℕ, ◌-◌, ◌&&◌, ◌==◌, length, nat_le, rules, sym, ap, ◌∙◌}
+use Rattle.std.proofs.Common.{◌≡◌, ℕ, ◌-◌, ◌&&◌, ◌==◌, nat_le, rules, sym, ap, ◌∙◌}
 use Rattle.volume_layout.specs.Layout.{map_sectors}
-use Rattle.shadow_frees.specs.Waits.{waiting_sectors}
 use Rattle.volume_contract.specs.Closing.{pages_in_use}
 use Rattle.volume_laws.specs.Saving.{saves_now}
 use Rattle.volume_laws.specs.State.{state}
