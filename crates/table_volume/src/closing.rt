@@ -24,8 +24,7 @@ impl Volume {
         ensures { result ≡ saves_now (state self.now) }
     {
         self.shadow.waiting().all == 0
-            && self.layout.map_sectors()
-                <= self.layout.pages() - self.table.free_pages.count()
+            && self.layout.map_sectors() <= self.layout.pages() - self.table.free_pages.count()
     }
 
     // Saves the map of a volume that has nothing to force, and then says in both copies of its anchor that it was closed.

@@ -1,5 +1,5 @@
 -- A close: behind its force it saves the map, if nothing waits on and a mount will believe it.
-use Rattle.std.proofs.Common.{◌≡◌, inl, inr, ℕ, ◌+◌, ◌<◌, Bool, true, false, cond, ◌&&◌, nat_lt, List, [], ◌∷◌, length, option_map, Option, Some, None, Result, Ok, Err, refl, sym, ap, subst, ◌∙◌, arith, if◌then◌else◌}
+use Rattle.std.proofs.Common.{◌≡◌, inl, inr, ℕ, ◌+◌, ◌<◌, Bool, true, false, cond, ◌&&◌, nat_lt, List, [], ◌∷◌, length, option_map, Option, Some, None, Result, Err, refl, sym, ap, subst, ◌∙◌, arith, if◌then◌else◌}
 use Rattle.std.specs.Prelude.{IsFalse, IsTrue}
 use Rattle.std.proofs.lemmas.Bool.{or_parts}
 use Rattle.volume_layout.specs.declared.layout.Layout.{Layout}
@@ -17,8 +17,8 @@ use Rattle.fsd_files.specs.Disk.{Has, Touches}
 use Rattle.fsd_sound.specs.Writes.{force_writes, saving_writes}
 use Rattle.volume_contract.specs.Closing.{HasMap, HasSaved, LeavesClosing, close_len, close_steps, counts_of, may_close, saves, saving_len}
 use Rattle.volume_contract.specs.Ends.{AnswersAndStands, Closes}
-use Rattle.volume_contract.specs.Order.{CallStep, Comes, Disk, Force, InOrder, Test, Through, force_steps, is_idle}
-use Rattle.volume_contract.specs.State.{Counted, IsForced, Known, LeavesSound, Stands, State, force_len, volume_of}
+use Rattle.volume_contract.specs.Order.{CallStep, Comes, Disk, Force, Test, Through, force_steps, is_idle}
+use Rattle.volume_contract.specs.State.{Counted, IsForced, Known, Stands, State, force_len, volume_of}
 use Rattle.volume_contract.proofs.CountedLaws.{counted_then}
 use Rattle.volume_laws.specs.Saving.{LeavesOpen, LeavesSaved, may_force, saves_now, with_free}
 use Rattle.volume_laws.specs.State.{IsMemoryOf, state}

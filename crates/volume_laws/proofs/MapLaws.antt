@@ -176,15 +176,15 @@ module _ (v : VolumeValue) (whole : IsWholeVolume v) (old : Moment) (short : Are
       told_then : MapTold k mid
       told_then = map_is_told v k old whole stands idle (counts_of v.free_pages v.versions) refl refl small mid holds
 
-      room : v.layout.sectors ≤ length old.image
-      room = let fits = stands.disk.over.shows.readable.roots.fits in omega (arith, fits, ap (λ (l : Layout). l.sectors) stands.fits.layout)
+      large : v.layout.sectors ≤ length old.image
+      large = let fits = stands.disk.over.shows.readable.roots.fits in omega (arith, fits, ap (λ (l : Layout). l.sectors) stands.fits.layout)
 
       -- behind the map its anchors are written
       pub leaves_anchors : (left : Moment) → ClosesIn v.log.anchor mid left → LeavesMap v k old left
       leaves_anchors left closing = record {
         sound = sound_on k k (saving_writes v.layout) (saving_writes v.layout) old mid left (on_itself k) holds.windows holds.said (λ s out. out)
             (saving_leaves v (sector v) old mid all_saved short k stands) (closing_leaves v k mid stands_then none told_then left closing);
-        first = inr (map_stays v mid left closing.first closing.copy closing.in_order closing.once closing.holds (with_free (state v)) (map_stands v whole old mid room holds));
+        first = inr (map_stays v mid left closing.first closing.copy closing.in_order closing.once closing.holds (with_free (state v)) (map_stands v whole old mid large holds));
       }
 
       -- and behind the last of them it has closed

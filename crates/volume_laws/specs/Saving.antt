@@ -1,5 +1,5 @@
 -- What a close leaves: its force, and the saving of a map behind it, of a volume that has nothing to force.
-use Rattle.std.specs.Prelude.{◌≡◌, ◌⊎◌, ℕ, Bool, ◌&&◌, ◌==◌, length, nat_le, nat_lt}
+use Rattle.std.specs.Prelude.{◌≡◌, ◌⊎◌, Bool, ◌&&◌, ◌==◌, length, nat_le, nat_lt}
 use Rattle.volume_layout.specs.Layout.{map_sectors}
 use Rattle.sector_disk.specs.Machine.{Moment}
 use Rattle.fsd_files.specs.Disk.{Sectors}

@@ -1,4 +1,4 @@
-use Rattle.std.proofs.Common.{◌≡◌, ◌≤◌, ℕ, true, false, ◌&&◌, ◌==◌, List, length, nat_le, Ok, Err, sym, ap, subst, ◌∙◌, arith}
+use Rattle.std.proofs.Common.{◌≡◌, true, false, ◌==◌, length, nat_le, Result, Ok, Err, sym, ap, subst, ◌∙◌, arith}
 use Rattle.std.specs.Prelude.{IsTrue}
 use Rattle.std.proofs.lemmas.Bool.{and_parts, both_ways, eqb-true}
 use Rattle.std.proofs.lemmas.List.{nil_from_length}
@@ -96,11 +96,12 @@ returns-in-Ok g c =
     let b = c.force_all.new.m in
     let d = c.save.new.m in
     let whole = c.attest.ensures in
-    let whole_then = c.attest-in_ok-force_all.ensures in
+    let whole_then = c.attest-2.ensures in
     let forced = c.in_ok-force_all.ensures in
     let kept = forced.keeps.by_steps.kept in
     let saved : saves s ≡ true = sym (saves_same s (state w) kept) ∙ sym c.saves.ensures ∙ c.if-not-saves.false in
     let map = c.in-Ok.ensures in
+    let r : Result (Unit {0}) Failed = Ok tt in
     let back = map.disk.trust.honest in
     record {
       order = record { follows = through_close s forced.order.follows; idle = λ idle. absurd (never_idle s saved forced.order.follows idle) };
@@ -113,7 +114,7 @@ returns-in-Ok g c =
             let was = back h in
             touches_close s saved (M.now a) (M.now b) (M.now d) (forced.opened.windows was) (touches_force M.now s a b forced.order.idle (forced.writes.rest was))
             (subst (λ (l : Layout). Touches (saving_writes l) (M.now b) (M.now d)) (forced_layout s (state w) kept) (map.rest h));
-        counted = λ tells. counted_saved s (state w) kept saved (Ok {E = Failed} tt) (M.ledger a) (M.ledger b) (M.ledger d) (forced.writes.counted (map.disk.trust.tells tells)) (map.counted tells);
+        counted = λ tells. counted_saved s (state w) kept saved r (M.ledger a) (M.ledger b) (M.ledger d) (forced.writes.counted (map.disk.trust.tells tells)) (map.counted tells);
       };
       causes = tt;
       saves = λ is h. saved_before s (state w) kept (forced_epoch v w whole whole_then kept) (M.now d) (map.saved h);
@@ -132,11 +133,12 @@ returns-in-Err g c =
     let b = c.force_all.new.m in
     let d = c.save.new.m in
     let whole = c.attest.ensures in
-    let whole_then = c.attest-in_ok-force_all.ensures in
+    let whole_then = c.attest-2.ensures in
     let forced = c.in_ok-force_all.ensures in
     let kept = forced.keeps.by_steps.kept in
     let saved : saves s ≡ true = sym (saves_same s (state w) kept) ∙ sym c.saves.ensures ∙ c.if-not-saves.false in
     let failed = c.in-Err.ensures in
+    let r : Result (Unit {0}) Failed = Err c.in-Err.failed in
     let place = c.in-Err.failed.place in
     let back = failed.disk.trust.honest in
     record {
@@ -153,7 +155,7 @@ returns-in-Err g c =
             let was = back h in
             touches_close s saved (M.now a) (M.now b) (M.now d) (forced.opened.windows was) (touches_force M.now s a b forced.order.idle (forced.writes.rest was))
             (subst (λ (l : Layout). Touches (saving_writes l) (M.now b) (M.now d)) (forced_layout s (state w) kept) (failed.rest h));
-        counted = λ tells. counted_saved s (state w) kept saved (Err {T = Unit {0}} c.in-Err.failed) (M.ledger a) (M.ledger b) (M.ledger d) (forced.writes.counted (failed.disk.trust.tells tells)) (failed.counted tells);
+        counted = λ tells. counted_saved s (state w) kept saved r (M.ledger a) (M.ledger b) (M.ledger d) (forced.writes.counted (failed.disk.trust.tells tells)) (failed.counted tells);
       };
       causes = λ h. tt;
       saves = λ is. tt;

@@ -1,17 +1,14 @@
-use Rattle.std.proofs.Common.{◌≡◌, ◌+◌, ◌^◌, ◌<◌, ◌≤◌, ℕ, Bool, List, length, rules, sym, ap, subst, ◌∙◌, arith}
+use Rattle.std.proofs.Common.{◌≡◌, ◌^◌, ◌<◌, ◌≤◌, ℕ, Bool, List, length, rules, sym, ap, subst, ◌∙◌, arith}
 use Rattle.std.specs.Prelude.{IsTrue}
 use Rattle.std.proofs.lemmas.Result.{err_from_is_err_and, on_ok_weaker}
 use Rattle.volume_layout.specs.declared.layout.Layout.{Layout}
 use Rattle.volume_layout.specs.Layout.{map_sectors}
-use Rattle.sector_disk.specs.Calls.{failed_at}
-use Rattle.sector_disk.specs.Image.{AreShort}
 use Rattle.sector_disk.specs.Machine.{Holds, Moment, wrote}
 use Rattle.sector_disk.specs.Written.{WroteMost}
-use Rattle.sector_disk.proofs.CallLaws.{told_up, writes_more, writes_then, writes_told}
+use Rattle.sector_disk.proofs.CallLaws.{writes_more, writes_then}
 use Rattle.fsd_sound.specs.Writes.{in_map}
 use Rattle.log_thirds.specs.Anchoring.{ClosesIn, with_closed}
 use Rattle.saved_map.specs.Saving.{SavesIn, saved, with_map}
-use Rattle.volume_laws.specs.State.{state}
 use Rattle.volume_laws.specs.Volume.{IsWholeVolume, VolumeValue}
 use Rattle.volume_laws.proofs.ForcedLaws.{from_is, to_is}
 use Rattle.volume_laws.proofs.MapLaws.{anchor_told, counted_map, has_saved, leaves_anchors, leaves_map, map_place, map_stands, saved_closes, sector, touches_saved}
@@ -39,7 +36,7 @@ module _ (s : Inside) (w : VolumeValue) (is : value s ≡ w) (pages : List Bool)
 pub save_map-requires-clause-of : goal.save_map-requires-clause-of
 save_map-requires-clause-of g c =
     let v = value c.self.inside in
-    record { from = from_is v c.self.invariant; to = to_is v c.self.invariant; pages_are = ap length c.as_slice.ensures ∙ c.self.invariant.pages }
+    record { from = from_is v c.self.invariant; to = to_is v c.self.invariant; pages_are = ap length c.as_slice-free_pages.ensures ∙ c.self.invariant.pages }
 
 pub save_map-requires-clause-planned : goal.save_map-requires-clause-planned
 save_map-requires-clause-planned g c = c.self.invariant.planned
@@ -65,9 +62,9 @@ returns-in_err-save_map g c =
     let new = M.now c.save_map.new.m in
     let failed = c.in_err-save_map.ensures in
     let p = err_from_is_err_and c.from_residual.result c.from_residual.ensures.1 in
-    let saves = λ (left : Moment). as_saves c.self.inside w c.self.view_is c.as_slice.result.now c.epoch.result c.as_slice.ensures c.epoch.ensures old left in
+    let saves = λ (left : Moment). as_saves c.self.inside w c.self.view_is c.as_slice-free_pages.result.now c.epoch.result c.as_slice-free_pages.ensures c.epoch.ensures old left in
     rw (p.1, p.2) (record {
-      disk = writes_told (told_up failed_at c.from_residual.result c.in_err-save_map.field-0.0 c.from_residual.ensures.1) (writes_more failed.writes (λ h left so. leaves_map w whole old (g.met.M.Machine.short c.args.m.now (failed.writes.trust.honest h)) left (saves left so)));
+      disk = writes_more failed.writes (λ h left so. leaves_map w whole old (g.met.M.Machine.short c.args.m.now (failed.writes.trust.honest h)) left (saves left so));
       rest = λ h. touches_map w (sector w) old new (saves new (failed.writes.exit h));
       place = map_place w.layout c.in_err-save_map.field-0.0.place (subst (λ (x : VolumeValue). IsTrue (in_map x.layout c.in_err-save_map.field-0.0.place)) c.self.view_is failed.place);
       counted = λ tells.
@@ -91,8 +88,8 @@ returns g c =
     let map = c.in_ok-save_map.ensures in
     let anchors = c.close_anchor.ensures in
     let back = anchors.writes.trust.honest in
-    let saves = λ (left : Moment). as_saves c.self.inside w c.self.view_is c.as_slice.result.now c.epoch.result c.as_slice.ensures c.epoch.ensures old left in
-    let stood = λ (h : M.honest c.close_anchor.new.m). as_holds c.self.inside w c.self.view_is c.as_slice.result.now c.epoch.result c.as_slice.ensures c.epoch.ensures old mid (map.done (back h)) in
+    let saves = λ (left : Moment). as_saves c.self.inside w c.self.view_is c.as_slice-free_pages.result.now c.epoch.result c.as_slice-free_pages.ensures c.epoch.ensures old left in
+    let stood = λ (h : M.honest c.close_anchor.new.m). as_holds c.self.inside w c.self.view_is c.as_slice-free_pages.result.now c.epoch.result c.as_slice-free_pages.ensures c.epoch.ensures old mid (map.done (back h)) in
     let closing = λ (left : Moment) (so : ClosesIn c.self.inside.log.anchor mid left). subst (λ (x : VolumeValue). ClosesIn x.log.anchor mid left) c.self.view_is so in
     let closed = λ (so : Holds mid (with_closed c.self.inside.log.anchor mid.image 1 1) new). subst (λ (x : VolumeValue). Holds mid (with_closed x.log.anchor mid.image 1 1) new) c.self.view_is so in
     let short = λ (h : M.honest c.close_anchor.new.m). g.met.M.Machine.short c.args.m.now (map.writes.trust.honest (back h)) in
