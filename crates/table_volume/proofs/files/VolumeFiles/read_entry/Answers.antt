@@ -72,5 +72,5 @@ returns-clause-done g c = λ h k stands there.
     let i = (g.M.Machine.now c.args.m.now).image in
     let e = c.args.e.now in
     reads_there i (g.M.Machine.now c.read_version.new.m).image (in_runs k.windows) (find key_cmp e.key k.mounted.volume.files) e c.args.from c.args.buf.now c.read_version.new.buf c.read_version.result
-    (rw there (both_kept i (in_runs k.windows) e.key k.mounted.volume.files k.mounted.volume.entries stands.disk.described.lists stands.disk.described.kept))
+    (rw (← there) (both_kept i (in_runs k.windows) e.key k.mounted.volume.files k.mounted.volume.entries stands.disk.described.lists stands.disk.described.kept))
     (λ f len kept. c.read_version.ensures.gives h f (in_runs k.windows) len kept)
