@@ -1,6 +1,6 @@
 -- What one command by itself says and writes, whatever the image.
 use Rattle.std.proofs.Common.{◌≡◌, inl, inr, ℕ, Bool, true, false, cond, List, [], ◌∷◌, ◌++◌, length, Option, Some, None, refl, sym, ◌∙◌, ap, subst, arith}
-use Rattle.std.specs.Prelude.{◌<◌, ◌≤◌, ◌||◌, IfErr, IfOk, OnOk, IsFalse, IsTrue, Result, Ok, Err, is_none, nat_le, nat_lt, option_map}
+use Rattle.std.specs.Prelude.{◌<◌, ◌≤◌, ◌||◌, IfErr, IfOk, OnOk, IsFalse, IsTrue, Result, Ok, Err, is_none, nat_le, nat_lt}
 use Rattle.std.specs.List.{AllByRecursion}
 use Rattle.std.proofs.lemmas.Bool.{and_parts, ltb-true, or_parts}
 use Rattle.volume_layout.specs.declared.layout.Layout.{Layout}
@@ -11,7 +11,6 @@ use Rattle.fsd_bytes.specs.declared.key.Key.{Key}
 use Rattle.fsd_bytes.specs.declared.refusal.Refusal.{Refusal}
 use Rattle.fsd_bytes.specs.declared.refusal.Refusal.TheVariants as Why
 use Rattle.fsd_formats.specs.NamePage.{max_keep, sectors_for}
-use Rattle.sector_disk.specs.declared.machine.Machine.{Ghosts}
 use Rattle.sector_disk.specs.Image.{IsWorn, open_damage}
 use Rattle.sector_disk.specs.Machine.{Ledger, Moment, Utters}
 use Rattle.fsd_files.specs.Answers.{keep_given, least_pages, size_fault}
@@ -27,8 +26,8 @@ use Rattle.fsd_texts.specs.Text.{fault_text}
 use Rattle.fsd_runs.specs.Commands.{reply_alone, reply_status}
 use Rattle.volume_contract.specs.Closing.{may_close}
 use Rattle.volume_contract.specs.Mount.{IsFound}
-use Rattle.volume_contract.specs.Order.{Asks, Comes, Data, Force, IsData, IsDeviceIn, IsFetch, IsLookUp, IsLoss, LookUp, StepRefuses, CallStep, Test, down, no_place_in, place, runs_at, worn}
-use Rattle.volume_contract.specs.State.{Ages, State, in_place, is_worn, place_in, put_writes}
+use Rattle.volume_contract.specs.Order.{Asks, Comes, Data, IsData, IsDeviceIn, IsFetch, IsLookUp, IsLoss, LookUp, StepRefuses, CallStep, Test, down, no_place_in, runs_at, worn}
+use Rattle.volume_contract.specs.State.{Ages, State, in_place, is_worn, place_in}
 use Rattle.scrub.specs.Looking.{AreDamaged}
 use Rattle.scrub.specs.Telling.{AreOfPage}
 use Rattle.scrub.proofs.LeadLaws.{touches_then, worn_touches}

@@ -20,7 +20,7 @@ use Rattle.fsd_texts.specs.declared.fault.Fault.{Fault}
 use Rattle.fsd_texts.specs.declared.script_command.ScriptCommand.TheVariants.{OfClient}
 use Rattle.fsd_runs.specs.Sessions.{CallMayFind, Meeting, call_answer, call_changes, call_may_wear_out, changes_closed}
 use Rattle.fsd_sound.specs.Mounted.{Mounted}
-use Rattle.volume_contract.specs.State.{Ages, Known, Leaves, Stands, State, forced_of, is_worn}
+use Rattle.volume_contract.specs.State.{Ages, Known, Leaves, Stands, State, is_worn}
 use Rattle.client_desk.specs.declared.client.Client.{Client}
 use Rattle.client_desk.specs.Clients.{IsDesk}
 use Rattle.client_desk.specs.Ends.{AnswersAs, LeavesOf, RefusesCall}

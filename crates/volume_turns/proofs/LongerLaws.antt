@@ -41,9 +41,6 @@ keeps_before longer a m b keeps same = subst (λ (n : ℕ). KeepsSectors longer 
 pub then_worn : (may : Sectors) (a b c : Moment) → b.windows ≡ a.windows → Touches may a b → IsWorn (open_damage b.windows) b.image c.image → Touches may a c
 then_worn may a b c windows first worn = touches_then may may may a b c (λ s out. out) (λ s out. out) windows first (worn_touches may b c worn)
 
-pub worn_longer : (n : ℕ) (may : Sectors) (a b : Moment) → IsWorn (open_damage a.windows) a.image b.image → TouchesLonger n may a b
-worn_longer n may a b worn = let same = worn.size in record { size = omega (arith, same); most = omega (arith, same); others = λ s out. worn.each s }
-
 longer_then : (n : ℕ) (earlier later may : Sectors) (a b c : Moment) → ((s : ℕ) → IsFalse (may s) → IsFalse (earlier s)) → ((s : ℕ) → IsFalse (may s) → IsFalse (later s)) → b.windows ≡ a.windows → TouchesLonger n earlier a b → Touches later b c → TouchesLonger n may a c
 longer_then n earlier later may a b c more_first more_then windows first second = record {
   size = omega (arith, first.size, second.size);

@@ -20,7 +20,7 @@ use Rattle.sector_disk.specs.Machine.{Moment, Wears}
 use Rattle.fsd_sound.specs.Mounted.{Mounted}
 use Rattle.volume_contract.specs.Ends.{EndsRefused, EndsForce, Answers, device_of}
 use Rattle.volume_contract.specs.declared.files.Forced.{Forced}
-use Rattle.volume_contract.specs.State.{State, Fits, Known, volume_of, forced_of, Stands, Leaves, is_worn}
+use Rattle.volume_contract.specs.State.{State, Fits, Known, volume_of, Stands, Leaves, is_worn}
 use Rattle.scrub.specs.Walk.{IsFromOutside}
 use Rattle.volume_turns.specs.Steps.{Does, Heals, IsAnswered, IsRefusedWorn, Stays, device_by, ended_by, read_ended_by}
 use Rattle.volume_turns.proofs.StaysLaws.{mounted_stays, sound_stays}

@@ -1,5 +1,5 @@
 -- An upgrade by itself: how it is refused, and what it leaves.
-use Rattle.std.proofs.Common.{◌≡◌, ◌⊎◌, inl, inr, ⊎_elim, ℕ, zero, suc, ◌≤◌, Bool, true, false, List, [], ◌∷◌, length, Option, Some, None, refl, sym, ◌∙◌, ap, subst}
+use Rattle.std.proofs.Common.{◌≡◌, ◌⊎◌, inl, inr, ℕ, zero, suc, ◌≤◌, Bool, true, false, List, [], ◌∷◌, length, Option, Some, None, refl, sym, ◌∙◌, ap, subst}
 use Rattle.std.specs.Prelude.{OnOk, IfErr, IfOk, IsTrue, Result, Ok, Err, ◌&&◌, ◌==◌, not, is_some, option_and_then, option_map, replicate}
 use Rattle.std.specs.List.{list_any}
 use Rattle.std.proofs.lemmas.List.{append-nil}
@@ -8,17 +8,15 @@ use Rattle.volume_layout.specs.declared.kind.Kind.TheVariants.{Two, Three}
 use Rattle.volume_layout.specs.declared.layout.Layout.{Layout}
 use Rattle.volume_layout.specs.Kinds.{other}
 use Rattle.volume_layout.specs.Layout.{turned, with_kind}
-use Rattle.volume_layout.specs.Root.{root_bytes}
 use Rattle.fsd_bytes.specs.declared.refusal.Refusal.{Refusal}
 use Rattle.fsd_bytes.specs.declared.refusal.Refusal.TheVariants as Why
 use Rattle.sector_disk.specs.declared.machine.Machine.{Ghosts}
-use Rattle.sector_disk.specs.declared.sector.Sector.TheVariants.{Whole, Damaged}
 use Rattle.sector_disk.specs.Calls.{IsTimed, Since}
-use Rattle.sector_disk.specs.Image.{AreShort, IsWorn, open_damage, sector_at}
+use Rattle.sector_disk.specs.Image.{AreShort, IsWorn, open_damage}
 use Rattle.sector_disk.specs.Machine.{LeavesOnly, Moment}
 use Rattle.fsd_log.specs.Scan.{Head, Placed}
 use Rattle.fsd_files.specs.Answers.{Outcome, upgraded as upgrade_outcome_of}
-use Rattle.fsd_files.specs.Disk.{Image, Sectors, Has, Touches}
+use Rattle.fsd_files.specs.Disk.{Image, Touches}
 use Rattle.fsd_files.specs.declared.reply.Reply.{Reply}
 use Rattle.fsd_files.specs.declared.reply.Reply.TheVariants as Said
 use Rattle.fsd_files.specs.Volume.{Volume}

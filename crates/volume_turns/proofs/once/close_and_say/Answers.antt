@@ -1,4 +1,4 @@
-use Rattle.std.proofs.Common.{◌≤◌, ◌∙◌, refl, subst}
+use Rattle.std.proofs.Common.{◌≤◌, refl, subst}
 use Rattle.fsd_texts.specs.declared.fault.Fault.{Fault}
 use Rattle.fsd_texts.specs.declared.fault.Fault.TheVariants as Ends
 use Rattle.scrub.specs.Telling.{AreOfPage}
