@@ -6,6 +6,8 @@ use Rattle.volume_layout.specs.Layout.{home_a, is_data, map_sectors, map_start}
 use Rattle.fsd_formats.specs.declared.anchor.Anchor.{Anchor}
 use Rattle.fsd_formats.specs.Anchors.{read_closed}
 use Rattle.fsd_formats.specs.SavedMap.{IsMapOf, MapCounts, is_set_in}
+use Rattle.sector_disk.specs.Image.{IsWorn, open_damage}
+use Rattle.sector_disk.specs.Machine.{Moment}
 use Rattle.fsd_table.specs.Table.{Telling, told_in, visits}
 use Rattle.fsd_files.specs.Disk.{Image, bytes_at}
 use Rattle.fsd_files.specs.Volume.{is_in, plans_of}
@@ -70,3 +72,9 @@ pub record IsBelieved (l : Layout) (epoch : ℕ) (i : Image) : Type 0 where
   pub counts : MapCounts
   pub is : IsMapOf l epoch counts sectors
   pub worth : map_sectors l ≤ counts.pages
+
+-- An image was seen, which the old one may be worn to, and which has no saved map of the epoch that is believed.
+pub record SeesNone (l : Layout) (epoch : ℕ) (old : Moment) : Type 0 where
+  pub seen : Image
+  pub from : IsWorn (open_damage old.windows) old.image seen
+  pub none : IsBelieved l epoch seen → ⊥

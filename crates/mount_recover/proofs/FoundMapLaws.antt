@@ -17,7 +17,8 @@ use Rattle.saved_map.specs.declared.believing.MapFault.TheVariants as map
 use Rattle.saved_map.specs.declared.believing.SavedMap.{SavedMap}
 use Rattle.saved_map.specs.Reading.{Believes, device_of_map}
 use Rattle.saved_map.proofs.ReadingLaws.{closed_was, map_was}
-use Rattle.mount_recover.specs.Finding.{map_fault_of, IsBorneFound, IsNotFound, SeesNone}
+use Rattle.fsd_sound.specs.Saved.{SeesNone}
+use Rattle.mount_recover.specs.Finding.{map_fault_of, IsBorneFound, IsNotFound}
 use Rattle.mount_recover.specs.Recover.{IsNotUnsound}
 
 -- ---- faults

@@ -18,7 +18,6 @@ use Rattle.saved_map.specs.declared.believing.MapFault.{MapFault}
 use Rattle.saved_map.specs.declared.believing.MapFault.TheVariants as map
 use Rattle.mount_recover.specs.Mending.{KnowsLog}
 use Rattle.fsd_sound.specs.Mounting.{HasRoot, HasLastEpoch}
-use Rattle.fsd_sound.specs.Saved.{IsBelieved}
 
 abbrev pub mount_fault_of : LogFault → MountFault
 mount_fault_of (log.Read (read.Device s)) = Device s
@@ -79,12 +78,6 @@ pub record IsNotFound (sectors : ℕ) (fault : MountFault) (old : Moment) : Type
   pub seen : Image
   pub from : IsWorn (open_damage old.windows) old.image seen
   pub why : NotFoundFor sectors seen fault
-
--- An image was seen, which the old one may be worn to, and which has no saved map of the epoch that is believed.
-pub record SeesNone (l : Layout) (epoch : ℕ) (old : Moment) : Type 0 where
-  pub seen : Image
-  pub from : IsWorn (open_damage old.windows) old.image seen
-  pub none : IsBelieved l epoch seen → ⊥
 
 -- the only refusals of an image that can be mounted
 abbrev pub IsExcuse : MountFault → Type 0

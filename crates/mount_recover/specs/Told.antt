@@ -16,7 +16,8 @@ use Rattle.fsd_sound.specs.Writes.{KeepsElsewhere, MountKeeps}
 use Rattle.fsd_sound.specs.declared.fault.MountFault.{MountFault}
 use Rattle.mount_recover.specs.declared.mounting.SettledVolume.{SettledVolume}
 use Rattle.saved_map.specs.Reading.{Believes}
-use Rattle.mount_recover.specs.Finding.{IsExcuse, SeesNone}
+use Rattle.fsd_sound.specs.Saved.{SeesNone}
+use Rattle.mount_recover.specs.Finding.{IsExcuse}
 use Rattle.mount_recover.specs.Lost.{StandAsShown, WritesMost}
 use Rattle.mount_recover.specs.Recover.{HasAnchorTwice, IsFreshLog, IsNotUnsound, IsRefusedFor, IsSettledIn, LeavesAll, writes_most}
 use Rattle.mount_recover.specs.Replay.{IsReplayed, IsUnturned, ReplaysSaid, TurnsLast}

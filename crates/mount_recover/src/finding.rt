@@ -2,7 +2,8 @@
 ghost use Rattle.std.specs.Prelude.{◌≡◌, None, IfOk, IfErr, IfSome};
 ghost use Rattle.sector_disk.specs.Calls.{OnlyReads, device_in};
 ghost use Rattle.fsd_sound.specs.Mounting.{HasRoot};
-ghost use Rattle.mount_recover.specs.Finding.{mount_fault_of, map_fault_of, IsBorneFound, IsMountable, IsNotFound, SeesNone};
+ghost use Rattle.mount_recover.specs.Finding.{mount_fault_of, map_fault_of, IsBorneFound, IsMountable, IsNotFound};
+ghost use Rattle.fsd_sound.specs.Saved.{SeesNone};
 ghost use Rattle.mount_recover.specs.Recover.{IsNotUnsound};
 ghost use Rattle.fsd_sound.specs.Mounting.{device_of_mount};
 ghost use Rattle.saved_map.specs.Reading.{Believes};

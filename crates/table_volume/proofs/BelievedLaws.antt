@@ -21,7 +21,7 @@ use Rattle.fsd_sound.specs.Saved.{AreSaved, IsBelieved, IsClosedAt, SavesPages, 
 use Rattle.fsd_sound.specs.declared.fault.MountFault.{MountFault}
 use Rattle.fsd_sound.specs.declared.fault.MountFault.TheVariants.{Memory}
 use Rattle.log_thirds.specs.LogValue.{LogValue}
-use Rattle.mount_recover.specs.Finding.{SeesNone}
+use Rattle.fsd_sound.specs.Saved.{SeesNone}
 use Rattle.mount_recover.specs.Recover.{IsSettled}
 use Rattle.saved_map.specs.declared.believing.SavedMap.{SavedMap}
 use Rattle.saved_map.specs.Reading.{Believes, IsSavedMap}

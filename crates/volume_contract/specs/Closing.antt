@@ -1,21 +1,22 @@
 -- A close: behind its force it saves the map, and then says in both copies of the anchor that the volume was closed.
-use Rattle.std.specs.Prelude.{◌≡◌, ◌⊎◌, ℕ, ◌+◌, ◌-◌, ◌<◌, Bool, ◌&&◌, ◌||◌, ◌==◌, List, [], ◌∷◌, ◌++◌, length, nat_le, nat_lt, if◌then◌else◌}
+use Rattle.std.specs.Prelude.{◌≡◌, ◌⊎◌, ℕ, ◌+◌, ◌-◌, ◌<◌, ◌≤◌, Bool, ◌&&◌, ◌||◌, ◌==◌, List, [], ◌∷◌, ◌++◌, length, nat_le, nat_lt, IsFalse, OnErr, Result, if◌then◌else◌}
 use Rattle.volume_layout.specs.Layout.{map_sectors, map_start}
 use Rattle.run_table.specs.RunTable.{sectors_of}
 use Rattle.run_table.specs.Space.{contains}
-use Rattle.fsd_formats.specs.declared.anchor.Anchor.{Anchor}
 use Rattle.fsd_formats.specs.Anchors.{closed_bytes}
 use Rattle.fsd_formats.specs.SavedMap.{MapCounts, saved_sector}
+use Rattle.sector_disk.specs.declared.machine.Machine.{Ghosts}
 use Rattle.sector_disk.specs.Image.{open_damage}
 use Rattle.sector_disk.specs.Machine.{Moment}
+use Rattle.fsd_bytes.specs.declared.refusal.Refusal.{Refusal}
 use Rattle.fsd_log.specs.Scan.{Placed}
-use Rattle.fsd_files.specs.Disk.{Has, Sectors}
+use Rattle.fsd_files.specs.Disk.{Has, Sectors, Touches}
 use Rattle.fsd_sound.specs.Laid.{StandsTwice}
 use Rattle.fsd_sound.specs.Mounted.{Mounted}
 use Rattle.fsd_sound.specs.Saved.{IsOpen}
 use Rattle.fsd_sound.specs.Writes.{force_writes, saving_writes}
 use Rattle.volume_contract.specs.Order.{CallStep, Disk, force_steps}
-use Rattle.volume_contract.specs.State.{Known, LeavesSound, Stands, State, force_len, still_waiting}
+use Rattle.volume_contract.specs.State.{Counted, IsForced, Known, LeavesSound, Stands, State, enters_again, force_len, still_waiting}
 
 -- ---- when, and how much
 
@@ -56,12 +57,20 @@ map_sector_of s k = saved_sector s.layout (contains (sectors_of s.freed)) (conta
 abbrev pub HasMap : State → Moment → Type 0
 HasMap s now = (k : ℕ) → k < map_sectors s.layout → Has (open_damage now.windows) now.image (map_sector_of s k) (map_start s.layout + k)
 
--- And an anchor of the volume's epoch stands at both of its places, which says that it was closed.
+-- And the anchor behind the force stands at both of its places, where it says that the volume was closed.
 pub record HasSaved (s : State) (now : Moment) : Type 0 where
   pub map : HasMap s now
-  pub anchor : Anchor
-  pub epoch : anchor.epoch ≡ s.anchor.epoch
-  pub closed : StandsTwice 1 (open_damage now.windows) now.image (closed_bytes anchor) 8 12
+  pub forced : State
+  pub ends : IsForced s forced
+  pub closed : StandsTwice 1 (open_damage now.windows) now.image (closed_bytes forced.anchor) 8 12
+
+-- Where a close writes, and how many sectors. One that fails has written nothing, where no third of the log is entered again,
+-- or all that its force writes.
+pub record WritesClosing {D T : Type 0} (M : Ghosts D) (s : State) (old new : D) (result : Result T Refusal) : Type 0 where
+  pub rest : M.honest new → Touches (may_close s) (M.now old) (M.now new)
+  pub counted : M.tells new → Counted result (close_len s) (M.ledger old) (M.ledger new)
+  pub unwritten : OnErr result (M.tells new → IsFalse (enters_again s) →
+      ((M.ledger new).written ≡ (M.ledger old).written) ⊎ ((M.ledger old).written + force_len s ≤ (M.ledger new).written))
 
 -- ---- what a stop leaves
 

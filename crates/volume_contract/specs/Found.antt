@@ -22,14 +22,17 @@ ShowsReached M resident old new before now Is = M.honest now → ShowsOfPages ol
 abbrev pub ShowsReachedNext : {D : Type 0} → (M : Ghosts D) → (resident : ℕ → Option (List ℕ)) → (old new : State) → (before now : D) → Option Key → Entry → Type 0
 ShowsReachedNext M resident old new before now after e = M.honest now → ShowsOfPages old new resident (M.now before) (M.now now) (λ pages. ReachesPage (HasNext after e pages) pages)
 
--- A leaf that has an entry of the key, whose sectors are taken. So many bytes are given as the entry has from a place on, up
--- to the buffer's room. The range's sectors were whole in the image, and the bytes are those of a version that the entry's
--- sectors keep there.
+-- So many bytes are given as an entry has from a place on, up to the buffer's room. The range's sectors were whole in the
+-- image, and the bytes are those of a version that the entry's sectors keep there.
+pub record GivesOf (i : Image) (e : Entry) (from : ℕ) (old new : List ℕ) (n : ℕ) : Type 0 where
+  pub count : n ≡ count_in e.length from (length old)
+  pub whole : AllByRecursion (IsWhole i) (range_sectors e.runs from n)
+  pub gives : (file : File) (hurt : Sectors) → e.length ≡ length file.bytes → KeptIn i hurt file.bytes e.runs → GivesBytes i file e from old new n
+
+-- A leaf that has an entry of the key, whose sectors are taken, and of which bytes are given.
 pub record HasRange (s : State) (i : Image) (key : Key) (from : ℕ) (old new : List ℕ) (n : ℕ) (v : Visit) : Type 0 where
   pub entry : Entry
   pub there : HasEntry entry v
   pub key_is : entry.key ≡ key
   pub taken : IsTaken s entry
-  pub count : n ≡ count_in entry.length from (length old)
-  pub whole : AllByRecursion (IsWhole i) (range_sectors entry.runs from n)
-  pub gives : (file : File) (hurt : Sectors) → entry.length ≡ length file.bytes → KeptIn i hurt file.bytes entry.runs → GivesBytes i file entry from old new n
+  pub range : GivesOf i entry from old new n

@@ -1,9 +1,8 @@
 -- What a mount finds, why it is refused, and what it leaves.
-use Rattle.std.specs.Prelude.{◌≡◌, ◌⊎◌, ⊤, ℕ, ◌+◌, ◌*◌, ◌<◌, ◌≤◌, Bool, ◌&&◌, ◌||◌, List, [], ◌∷◌, ◌++◌, take, Some, None, IfSome, IfOk, IfErr, Result, Ok, Err, nat_lt}
+use Rattle.std.specs.Prelude.{◌≡◌, ◌⊎◌, ⊤, ℕ, ◌+◌, ◌-◌, ◌*◌, ◌<◌, ◌≤◌, Bool, ◌||◌, List, [], ◌∷◌, ◌++◌, take, Option, Some, None, IfSome, IfOk, IfErr, Result, Ok, Err}
 use Rattle.volume_layout.specs.declared.layout.Layout.{Layout}
-use Rattle.volume_layout.specs.Layout.{home_a, is_data, IsPlanned}
-use Rattle.run_table.specs.RunTable.{sectors_of}
-use Rattle.run_table.specs.Space.{contains}
+use Rattle.volume_layout.specs.Layout.{data_start, home_a, IsPlanned}
+use Rattle.run_table.specs.Space.{runs_of, where_free}
 use Rattle.fsd_formats.specs.declared.anchor.Anchor.{Anchor}
 use Rattle.fsd_formats.specs.Anchors.{anchor_bytes}
 use Rattle.fsd_formats.specs.SavedMap.{is_set_in}
@@ -20,7 +19,7 @@ use Rattle.fsd_sound.specs.Anchors.{anchor_of}
 use Rattle.fsd_sound.specs.Homes.{home_of, HasBothHomes}
 use Rattle.fsd_sound.specs.Laid.{StandsTwice}
 use Rattle.fsd_sound.specs.Mounted.{Mounted, IsFreshlyMounted, telling_of}
-use Rattle.fsd_sound.specs.Saved.{IsBelieved}
+use Rattle.fsd_sound.specs.Saved.{IsBelieved, SeesNone}
 use Rattle.fsd_sound.specs.Shown.{all_pages, each_of, shown}
 use Rattle.fsd_sound.specs.Sound.{EndIn, IsPrefixOf, IsSaid, IsSound, SaysNoMore, weak_of}
 use Rattle.fsd_sound.specs.declared.fault.MountFault.{MountFault}
@@ -104,12 +103,27 @@ abbrev pub UnsoundFor : ℕ → (old new : Moment) → MountFault → Type 0
 UnsoundFor sectors old new (Unsound s) = IsUnsoundAt sectors old new s
 UnsoundFor sectors old new fault = ⊤
 
+-- ---- the saved map
+
+-- The free sectors, the free pages and the number of versions are those of a map of this epoch, which is believed of the
+-- image.
+pub record IsByMap (epoch : ℕ) (i : Image) (s : State) : Type 0 where
+  pub believed : IsBelieved s.layout epoch i
+  pub free : s.free ≡ runs_of (where_free (is_set_in believed.sectors) (data_start s.layout) s.layout.sectors)
+  pub spare : s.free_pages ≡ where_free (λ page. is_set_in believed.sectors (home_a s.layout page)) 0 s.layout.pages
+  pub versions : s.versions ≡ believed.counts.versions
+
+-- so it is of a map of the epoch before the volume's, or none was seen that is believed
+abbrev pub IsByMapSeen : State → Moment → Type 0
+IsByMapSeen s old = IsByMap (s.serial.epoch - 1) old.image s ⊎ SeesNone s.layout (s.serial.epoch - 1) old
+
 -- ---- both, by the answer
 
 module _ {S : Type 0} (state : S → State) where
   -- Each answer but a fault of the disk and want of memory says what the image was, as it was seen.
   pub record MountTells (sectors : ℕ) (old new : Moment) (result : Result S MountFault) : Type 0 where
     pub found : IfOk result (λ volume. IsFound sectors (state volume) old new)
+    pub map : IfOk result (λ volume. IsByMapSeen (state volume) old)
     pub refused : IfErr result (λ fault. IsRefused sectors fault old)
     pub unchanged : IfErr result (λ fault. KeepsAll fault old new)
     pub lost : IfErr result (λ fault. LostIn (AreCopiesOn sectors old) new.image fault)
@@ -130,20 +144,18 @@ pub record ShowsVolumePages (sectors : ℕ) (i : Image) (l : Layout) (pages : Li
   pub found : IsVolume sectors i l anchor
   pub shows : shown l i ≡ Some pages
 
--- It has a map that is believed, and says of free sectors, of free pages and of versions what this says.
-pub record MountsSaved (sectors : ℕ) (i : Image) (s : State) : Type 0 where
+-- It has a map that is believed, and no page was read.
+pub record MountsSaved (resident : ℕ → Option (List ℕ)) (sectors : ℕ) (i : Image) (s : State) : Type 0 where
   pub anchor : Anchor
   pub found : IsVolume sectors i s.layout anchor
-  pub believed : IsBelieved s.layout anchor.epoch i
-  pub free : (t : ℕ) → contains (sectors_of s.free) t ≡ (is_data s.layout t && is_set_in believed.sectors t)
-  pub spare : (page : ℕ) → contains s.free_pages page ≡ (nat_lt page s.layout.pages && is_set_in believed.sectors (home_a s.layout page))
-  pub versions : s.versions ≡ believed.counts.versions
+  pub by : IsByMap anchor.epoch i s
+  pub unread : (page : ℕ) → resident page ≡ None
 
 -- no map of the image is believed
 abbrev pub BelievesNone : ℕ → Image → Type 0
 BelievesNone sectors i = (l : Layout) (a : Anchor) → IsVolume sectors i l a → IsBelieved l a.epoch i → ⊥
 
-module _ {S : Type 0} (state : S → State) (has : S → Mounted → List Placed → Type 0) where
+module _ {S : Type 0} (state : S → State) (resident : S → ℕ → Option (List ℕ)) (has : S → Mounted → List Placed → Type 0) where
   -- The volume has the pages that the image shows in memory, and no records:
   -- they are a table, and none of them breaks it.
   pub record MountsShown (sectors : ℕ) (i : Image) (volume : S) : Type 0 where
@@ -155,10 +167,10 @@ module _ {S : Type 0} (state : S → State) (has : S → Mounted → List Placed
     pub told : told_in mounted.pages ≡ Some (telling_of mounted.volume)
     pub whole : (page : ℕ) → Breaks (state volume).layout mounted.pages page → ⊥
 
-  -- The map is believed, and no page is read. Or none is, and the volume is mounted as its pages are, or a page breaks, or one
-  -- isn't shown.
+  -- The volume is mounted by its map. Or no map is believed, and it is mounted as its pages are, or a page breaks, or one isn't
+  -- shown.
   abbrev pub MountsCalm : ℕ → Image → Result S MountFault → Type 0
-  MountsCalm sectors i (Ok volume) = MountsSaved sectors i (state volume) ⊎ (MountsShown sectors i volume × BelievesNone sectors i)
+  MountsCalm sectors i (Ok volume) = MountsSaved (resident volume) sectors i (state volume) ⊎ (MountsShown sectors i volume × BelievesNone sectors i)
   MountsCalm sectors i (Err (Unsound s)) = ((l : Layout) × (pages : List (List ℕ)) × ShowsVolumePages sectors i l pages × BreaksAt l pages s) × BelievesNone sectors i
   MountsCalm sectors i (Err fault) = LosesShown sectors i fault
 

@@ -5,6 +5,8 @@ use Rattle.volume_layout.specs.Layout.{is_data}
 use Rattle.fsd_bytes.specs.declared.key.Key.{Key}
 use Rattle.fsd_bytes.specs.declared.refusal.Refusal.{Refusal}
 use Rattle.fsd_bytes.specs.declared.refusal.Refusal.TheVariants as Why
+use Rattle.run_table.specs.RunTable.{sectors_of}
+use Rattle.run_table.specs.Space.{contains}
 use Rattle.fsd_formats.specs.declared.entry.Entry.{Entry}
 use Rattle.sector_disk.specs.declared.machine.Machine.{Ghosts}
 use Rattle.sector_disk.specs.declared.sector.Sector.TheVariants.{Damaged}
@@ -15,7 +17,7 @@ use Rattle.fsd_files.specs.Disk.{Image}
 use Rattle.fsd_files.specs.Scrub.{CountsTwins, FindsLeader}
 use Rattle.volume_contract.specs.declared.files.Forced.{Forced}
 use Rattle.fsd_sound.specs.Lookups.{HasKey, LacksKey, LacksLater}
-use Rattle.volume_contract.specs.Found.{ShowsReached, HasRange, ShowsReachedNext}
+use Rattle.volume_contract.specs.Found.{GivesOf, HasRange, ShowsReached, ShowsReachedNext}
 use Rattle.volume_contract.specs.Behind.{IsBehindForce}
 use Rattle.volume_contract.specs.Causes.{Causes, IsTaken}
 use Rattle.volume_contract.specs.Ends.{IsLater, count_in}
@@ -37,6 +39,13 @@ TellsDamaged M l now result = (s : ℕ) → result ≡ Err (Why.Damaged s) → M
 pub record TellsHeld {D : Type 0} (M : Ghosts D) (l : Layout) (len from room : ℕ) (now : D) (result : Result ℕ Refusal) : Type 0 where
   pub count : IfOk result (λ n. n ≡ count_in len from room)
   pub damaged : TellsDamaged M l now result
+
+-- Bytes of a version by its entry, from a place on, for a buffer that has these before and those then: what is told as
+-- damaged is a sector of the entry's.
+pub record TellsBytes {D : Type 0} (M : Ghosts D) (e : Entry) (from : ℕ) (buf then : List ℕ) (before now : D) (result : Result ℕ Refusal) : Type 0 where
+  pub count : IfOk result (λ n. n ≡ count_in e.length from (length buf))
+  pub gives : IfOk result (λ n. M.honest now → GivesOf (M.now before).image e from buf then n)
+  pub damaged : (s : ℕ) → result ≡ Err (Why.Damaged s) → M.honest now → IsTrue (contains (sectors_of e.runs) s) × (sector_at (M.now now).image s ≡ Damaged)
 
 -- Why a call answers so, where before the call it had such pages in memory.
 module _ {D : Type 0} (M : Ghosts D) (resident : ℕ → Option (List ℕ)) (old new : State) (before now : D) where

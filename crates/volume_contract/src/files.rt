@@ -20,13 +20,13 @@ ghost use Rattle.fsd_sound.specs.Sound.{is_twin};
 ghost use Rattle.fsd_sound.specs.Mounted.{Mounted, image_at};
 ghost use Rattle.volume_contract.specs.State.{State, Known, Ages, WritesTold, WritesWithin, volume_of, Stands, HasCounted, IsForced as HasForced, HeldVersion, Leaves, put_writes, force_len, change_len, put_len, forces_first, forces_for_place};
 ghost use Rattle.fsd_sound.specs.Writes.{force_writes};
-ghost use Rattle.volume_contract.specs.Closing.{HasSaved, LeavesClosing, close_len, close_steps, may_close, saves};
+ghost use Rattle.volume_contract.specs.Closing.{HasSaved, LeavesClosing, WritesClosing, close_steps, saves};
 ghost use Rattle.volume_contract.specs.Order.{InOrder, IsDeviceRefusal, KeepsRefused, KeepsBy, put_steps, delete_steps, keep_steps, move_steps, entry_steps, next_steps, read_steps, reserve_steps, slices_steps, enter_steps, held_steps, force_steps, heal_steps, single_steps, upgrade_steps, grow_steps, is_root, with_three, load_steps};
 ghost use Rattle.volume_contract.specs.Pieces.{IsDraft, IsHeldVersion, KeepsEnter, KeepsReserve, GivesBack, HoldsAt, Unholds, FitsDraft, reserve_len, slice_count, in_slices, in_leader, slices_in, slices_if, read_at, ended, with_opened, refusal_told, EndsReserve, EndsSlices, EndsEnter, EndsHold, ReadsHeld};
 ghost use Rattle.volume_contract.specs.Ends.{Ends, EndsLoad, EndsPut, EndsForce, Closes, LooksUp, found_one, ReadsRange, kept_key, device_of};
 ghost use Rattle.volume_contract.specs.Causes.{Causes};
 ghost use Rattle.volume_contract.specs.Healing.{IsMet, LeavesWith, StandsStill};
-ghost use Rattle.volume_contract.specs.Telling.{TellsEntry, TellsForce, TellsGone, TellsHeld, TellsKept, TellsKey, TellsMoved, TellsLeader, TellsNext, TellsRange, TellsTwins, TellsLoad};
+ghost use Rattle.volume_contract.specs.Telling.{TellsEntry, TellsForce, TellsGone, TellsBytes, TellsHeld, TellsKept, TellsKey, TellsMoved, TellsLeader, TellsNext, TellsRange, TellsTwins, TellsLoad};
 ghost use Rattle.volume_contract.specs.Upgrade.{EndsUpgrade, LeavesUpgraded, RootsStand, is_fresh};
 ghost use Rattle.volume_contract.specs.Growth.{EndsGrow, HasGrown, LeavesGrown, WritesLonger};
 ghost use Rattle.volume_contract.specs.Mount.{MountOpens, MountTells, MountHeals, MountsCalm, IsSoundAt, MountsSound};
@@ -83,7 +83,7 @@ pub trait Files<M: Machine>: Sized {
 
         // Where nothing wears, an image is mounted by its saved map, if that is believed, else as it shows its table,
         // and refused for it exactly where a page breaks.
-        ensures calm { M.honest m.new → IsCalm (M.now m.old).windows → IsCalm (M.now m.new).windows → MountsCalm state holds sectors (M.now m.old).image result }
+        ensures calm { M.honest m.new → IsCalm (M.now m.old).windows → IsCalm (M.now m.new).windows → MountsCalm state resident holds sectors (M.now m.old).image result }
 
         // A sound disk stays sound at each moment, and its files after a prefix of the changes,
         // with every forced one, are mounted.
@@ -361,7 +361,7 @@ pub trait Files<M: Machine>: Sized {
         ensures disk { OnlyReads M.Machine (device_in device_of result) m.old m.new }
         ensures state { state self.new ≡ state self.old }
         ensures stands { M.honest m.new → (k : Known) → Stands state holds self.old k (M.now m.old) → Stands state holds self.new k (M.now m.new) }
-        ensures tells { TellsHeld M.Machine (state self.old).layout e.now.length from (length buf.old) m.new result }
+        ensures tells { TellsBytes M.Machine e.now from buf.old buf.new m.old m.new result }
         ensures done { M.honest m.new → (k : Known) → Stands state holds self.old k (M.now m.old) → entry_of e.now.key (volume_of k).entries ≡ Some e.now →
             ReadsRange (M.now m.old).image (M.now m.new).image (file_of key_cmp e.now.key (volume_of k).files) (Some e.now) from buf.old buf.new result };
 
@@ -410,7 +410,7 @@ pub trait Files<M: Machine>: Sized {
         requires { (state self).layout.sectors ≤ (M.report m.old).sectors }
         ensures order { InOrder (close_steps (state self)) m.old m.new result }
         ensures disk { WritesDisk M.Machine (device_in device_of result) (LeavesClosing state holds self) m.old m.new }
-        ensures writes { WritesWithin M.Machine (may_close (state self)) (close_len (state self)) m.old m.new result }
+        ensures writes { WritesClosing M.Machine (state self) m.old m.new result }
         ensures causes { Causes M.Machine (resident self) (state self) (state self) m.old m.new result }
         ensures saves { IsTrue (saves (state self)) → OnOk result (M.honest m.new → HasSaved (state self) (M.now m.new)) }
         ensures done { M.honest m.new → (k : Known) → Stands state holds self k (M.now m.old) → MatchResult result (λ x. Closes k (M.now m.new).image) (λ why. IsDeviceRefusal why) };

@@ -10,7 +10,7 @@ use Rattle.fsd_sound.proofs.WritesLaws.{elsewhere}
 use Rattle.fsd_sound.specs.Lost.{AreCopiesOn}
 use Rattle.fsd_sound.specs.Sound.{IsSaid}
 use Rattle.saved_map.specs.Reading.{Believes}
-use Rattle.mount_recover.specs.Finding.{SeesNone}
+use Rattle.fsd_sound.specs.Saved.{SeesNone}
 use Rattle.mount_recover.specs.Mending.{StaysOrSettles, IsCompleted, StaysShown}
 use Rattle.mount_recover.specs.Recover.{ShowsVolume}
 use Rattle.mount_recover.specs.Replay.{IsReplayed, IsUnturned, Replays, TurnsLast}
