@@ -5,11 +5,11 @@ ghost use Rattle.sector_disk.specs.Calls.{WritesDisk, device_in, failed_at};
 ghost use Rattle.fsd_files.specs.Disk.{Touches};
 ghost use Rattle.fsd_sound.specs.Writes.{saving_writes};
 ghost use Rattle.volume_contract.specs.Causes.{Causes};
-ghost use Rattle.volume_contract.specs.Closing.{HasSaved, LeavesClosing, close_len, close_steps, may_close, saves};
+ghost use Rattle.volume_contract.specs.Closing.{HasSaved, LeavesClosing, WritesClosing, close_steps, saves};
 ghost use Rattle.volume_contract.specs.Ends.{Closes, device_of};
 ghost use Rattle.volume_contract.specs.Order.{InOrder, IsDeviceRefusal};
-ghost use Rattle.volume_contract.specs.State.{Counted, Known, Stands, WritesWithin, volume_of};
-ghost use Rattle.volume_laws.specs.Saving.{LeavesSaved, saves_now, with_free};
+ghost use Rattle.volume_contract.specs.State.{Counted, Known, Stands, volume_of};
+ghost use Rattle.volume_laws.specs.Saving.{HasMapClosed, LeavesSaved, saves_now};
 ghost use Rattle.volume_laws.specs.State.{IsMemoryOf, resident, state};
 
 use crate::Volume;
@@ -35,7 +35,7 @@ impl Volume {
         ensures rest { M.honest m.new → Touches (saving_writes self.now.layout) (M.now m.old) (M.now m.new) }
         ensures place { IfErr result (λ failed. IsTrue (saving_writes self.now.layout failed.place)) }
         ensures counted { M.tells m.new → Counted result (map_sectors self.now.layout + 2) (M.ledger m.old) (M.ledger m.new) }
-        ensures saved { OnOk result (M.honest m.new → HasSaved (with_free (state self.now)) (M.now m.new)) }
+        ensures saved { OnOk result (M.honest m.new → HasMapClosed (state self.now) (M.now m.new)) }
         ensures closes { OnOk result (M.honest m.new → (k : Known) → Stands state IsMemoryOf self.now k (M.now m.old) → (volume_of k).unforced ≡ 0 → Closes k (M.now m.new).image) }
     {
         let free_pages = self.table.free_pages.as_slice();
@@ -55,7 +55,7 @@ impl Volume {
         requires { (state self.old).layout.sectors ≤ (M.report m.old).sectors }
         ensures order { InOrder (close_steps (state self.old)) m.old m.new result }
         ensures disk { WritesDisk M.Machine (device_in device_of result) (LeavesClosing state IsMemoryOf self.old) m.old m.new }
-        ensures writes { WritesWithin M.Machine (may_close (state self.old)) (close_len (state self.old)) m.old m.new result }
+        ensures writes { WritesClosing M.Machine (state self.old) m.old m.new result }
         ensures causes { Causes M.Machine (resident self.old) (state self.old) (state self.old) m.old m.new result }
         ensures saves { IsTrue (saves (state self.old)) → OnOk result (M.honest m.new → HasSaved (state self.old) (M.now m.new)) }
         ensures done { M.honest m.new → (k : Known) → Stands state IsMemoryOf self.old k (M.now m.old) → MatchResult result (λ x. Closes k (M.now m.new).image) (λ why. IsDeviceRefusal why) }

@@ -20,7 +20,7 @@ use Rattle.volume_contract.specs.Ends.{AnswersAndStands, Closes}
 use Rattle.volume_contract.specs.Order.{CallStep, Comes, Disk, Force, Test, Through, force_steps, is_idle}
 use Rattle.volume_contract.specs.State.{Counted, IsForced, Known, Stands, State, force_len, volume_of}
 use Rattle.volume_contract.proofs.CountedLaws.{counted_then}
-use Rattle.volume_laws.specs.Saving.{LeavesOpen, LeavesSaved, may_force, saves_now, with_free}
+use Rattle.volume_laws.specs.Saving.{HasMapClosed, LeavesOpen, LeavesSaved, may_force, saves_now, with_free}
 use Rattle.volume_laws.specs.State.{IsMemoryOf, state}
 use Rattle.volume_laws.specs.Volume.{IsWholeVolume, VolumeValue}
 use Rattle.volume_laws.proofs.CloseLaws.{closes_on, forced_on, none_unforced, same_telling}
@@ -45,8 +45,8 @@ module _ (s t : State) (forced : IsForced s t) where
         subst (λ (e : ℕ). (n : ℕ) → n < map_sectors s.layout → Has (open_damage now.windows) now.image (saved_sector s.layout (contains (sectors_of s.freed)) (contains s.free_pages) e (counts_of s) n) (map_start s.layout + n)) epoch
         (subst (λ (x : State). HasMap (with_free x) now) forced.is map)
 
-    pub saved_before : HasSaved (with_free t) now → HasSaved s now
-    saved_before saved = record { map = map_before saved.map; anchor = saved.anchor; epoch = saved.epoch ∙ epoch; closed = saved.closed }
+    pub saved_before : HasMapClosed t now → HasSaved s now
+    saved_before saved = record { map = map_before saved.map; forced = t; ends = forced; closed = saved.closed }
 
 pub forced_epoch : (v w : VolumeValue) → IsWholeVolume v → IsWholeVolume w → IsForced (state v) (state w) → w.log.anchor.epoch ≡ v.log.anchor.epoch
 forced_epoch v w whole whole_then forced = sym whole_then.epoch ∙ ap (λ (x : State). x.serial.epoch) forced.is ∙ whole.epoch

@@ -112,8 +112,10 @@ module _ {D : Type 0} (M : MachineGhosts D) (resident : ℕ → Option (List ℕ
         there = has;
         key_is = same;
         taken = taken;
-        count = count;
-        whole = whole_before may i seen j worn (range_sectors e.runs from n) (whole honest);
-        gives = λ file hurt len kept. reads_found may i seen j worn (λ s. hurt s || may s) (Some file) (Some e) e from buf left (Ok n) refl (len, kept_later may hurt i seen worn file.bytes e.runs kept) (λ f l k. gives honest f (λ s. hurt s || may s) l k);
+        range = record {
+          count = count;
+          whole = whole_before may i seen j worn (range_sectors e.runs from n) (whole honest);
+          gives = λ file hurt len kept. reads_found may i seen j worn (λ s. hurt s || may s) (Some file) (Some e) e from buf left (Ok n) refl (len, kept_later may hurt i seen worn file.bytes e.runs kept) (λ f l k. gives honest f (λ s. hurt s || may s) l k);
+        };
       } in
       shows_after old new new (M.now m) (M.now mid) (M.now m') refl refl (reads.worn honest) resident _ _ (λ pages led. (led.0, led.1, range led.0 led.2)) (there back)

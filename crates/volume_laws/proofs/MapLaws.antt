@@ -23,10 +23,10 @@ use Rattle.fsd_files.proofs.KeptLaws.{has_on}
 use Rattle.fsd_sound.specs.Writes.{in_map, saving_writes}
 use Rattle.log_thirds.specs.Anchoring.{ClosesIn, with_closed}
 use Rattle.saved_map.specs.Saving.{SavesIn, counts_of, saved, with_map}
-use Rattle.volume_contract.specs.Closing.{HasMap, HasSaved, map_sector_of}
+use Rattle.volume_contract.specs.Closing.{HasMap, map_sector_of}
 use Rattle.volume_contract.specs.Ends.{Closes}
 use Rattle.volume_contract.specs.State.{Counted, Known, Stands, State, volume_of}
-use Rattle.volume_laws.specs.Saving.{LeavesMap, LeavesSaved, with_free}
+use Rattle.volume_laws.specs.Saving.{HasMapClosed, LeavesMap, LeavesSaved, with_free}
 use Rattle.volume_laws.specs.State.{IsMemoryOf, spare_pages, state}
 use Rattle.volume_laws.specs.Volume.{IsWholeVolume, VolumeValue}
 use Rattle.volume_laws.proofs.CountLaws.{count_of_flags}
@@ -139,11 +139,9 @@ module _ (v : VolumeValue) (whole : IsWholeVolume v) (mid now : Moment) (fits : 
   stands_on : (s : ℕ) → sector_at both s ≡ Whole spelled → Has (open_damage now.windows) now.image spelled s
   stands_on s there = subst (λ (w : Windows). Has (open_damage w) now.image spelled s) (sym holds.windows) (has_on (open_damage mid.windows) both now.image spelled s (holds.worn.each s) (inl there))
 
-  pub has_saved : HasMap (with_free (state v)) mid → HasSaved (with_free (state v)) now
+  pub has_saved : HasMap (with_free (state v)) mid → HasMapClosed (state v) now
   has_saved map = record {
     map = map_stays v mid now 1 1 (omega arith) (omega arith) holds (with_free (state v)) map;
-    anchor = v.log.anchor;
-    epoch = refl;
     closed = record {
       first = stands_on 8 (stand_other (stand mid.image 8 spelled 1) 12 spelled 1 8 (inl (omega arith)) ∙ stand_in mid.image 8 spelled 1 0 (omega arith) (omega (arith, room)) ∙ all);
       second = stands_on 12 (let long = length-stand mid.image 8 spelled 1 in stand_in (stand mid.image 8 spelled 1) 12 spelled 1 0 (omega arith) (omega (arith, room, long)) ∙ all);

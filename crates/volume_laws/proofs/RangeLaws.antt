@@ -12,6 +12,7 @@ use Rattle.run_table.specs.RunTable.{sectors_of}
 use Rattle.run_table.specs.Space.{all_differ, contains}
 use Rattle.run_table.proofs.SectorLaws.{all_in, first_there, rest_there}
 use Rattle.sector_disk.specs.declared.sector.Sector.TheVariants as Sector
+use Rattle.sector_disk.specs.declared.machine.Machine.{Ghosts as MachineGhosts}
 use Rattle.sector_disk.specs.Image.{IsWorn, sector_at}
 use Rattle.sector_disk.proofs.Wear.{worn_whole}
 use Rattle.fsd_bytes.specs.Bytes.{sector_len}
@@ -34,6 +35,7 @@ use Rattle.version_data.specs.declared.fault.DataFault.TheVariants.{Device, Dama
 use Rattle.version_data.specs.Reading.{GivesRange, NamesFirst, data_failed_at, refusal_of}
 use Rattle.version_data.proofs.PlaceLaws.{entry_lengths, index_there}
 use Rattle.volume_contract.specs.Causes.{meets_held}
+use Rattle.volume_contract.specs.Found.{GivesOf}
 use Rattle.volume_contract.specs.Ends.{GivesBytes, LooksUp, ReadsRange, count_in, device_of}
 use Rattle.volume_contract.specs.Order.{Comes, Follows, IsData, CallStep, Through, entry_steps, is_idle, read_steps}
 use Rattle.volume_contract.specs.State.{State, held_runs}
@@ -196,6 +198,14 @@ both_kept i hurt key (v ∷ s) (e ∷ entries) lists kept =
     let same : eq_by_cmp key_cmp key v.0 ≡ same_key e.key key = same_key_turned key v.0 ∙ ap (λ (k : Key). same_key k key) (sym lists.0.key) in
     subst (λ (b : Bool). AreBothKept i hurt (cond (eq_by_cmp key_cmp key v.0) (Some v.1) (find key_cmp key s)) (cond b (Some e) (entry_of key entries))) same
     (both_chosen i hurt (eq_by_cmp key_cmp key v.0) v.1 e (find key_cmp key s) (entry_of key entries) (lists.0.length, kept.0) (both_kept i hurt key s entries lists.1 kept.1))
+
+-- what a read of an entry gives of any image
+pub gives_of : {D : Type 0} (M : MachineGhosts D) (m m' : D) (e : Entry) (from : ℕ) (buf then : List ℕ) (r : Result ℕ Refusal) → IfOk r (λ n. n ≡ count_in e.length from (length buf))
+    → IfOk r (λ n. M.honest m' → AllByRecursion (IsSectorWhole (M.now m).image) (range_sectors e.runs from n))
+    → (M.honest m' → (file : File) (hurt : Sectors) → e.length ≡ length file.bytes → KeptIn (M.now m).image hurt file.bytes e.runs → ReadsRange (M.now m).image (M.now m').image (Some file) (Some e) from buf then r)
+    → IfOk r (λ n. M.honest m' → GivesOf (M.now m).image e from buf then n)
+gives_of M m m' e from buf then (Err why) count whole gives = tt
+gives_of M m m' e from buf then (Ok n) count whole gives = λ honest. record { count = count; whole = whole honest; gives = gives honest }
 
 -- a version of this entry is there
 pub reads_there : (i j : Image) (hurt : Sectors) (file : Option File) (e : Entry) (from : ℕ) (old new : List ℕ) (r : Result ℕ Refusal) → AreBothKept i hurt file (Some e)

@@ -1,8 +1,11 @@
 -- What a close leaves: its force, and the saving of a map behind it, of a volume that has nothing to force.
 use Rattle.std.specs.Prelude.{◌≡◌, ◌⊎◌, Bool, ◌&&◌, ◌==◌, length, nat_le, nat_lt}
 use Rattle.volume_layout.specs.Layout.{map_sectors}
+use Rattle.fsd_formats.specs.Anchors.{closed_bytes}
+use Rattle.sector_disk.specs.Image.{open_damage}
 use Rattle.sector_disk.specs.Machine.{Moment}
 use Rattle.fsd_files.specs.Disk.{Sectors}
+use Rattle.fsd_sound.specs.Laid.{StandsTwice}
 use Rattle.fsd_sound.specs.Saved.{IsOpen}
 use Rattle.fsd_sound.specs.Writes.{force_writes, saving_writes}
 use Rattle.volume_contract.specs.Closing.{HasMap, pages_in_use}
@@ -34,6 +37,11 @@ saves_now s = (length s.waiting == 0) && nat_le (map_sectors s.layout) (pages_in
 -- what is free stays so: a force frees no more
 abbrev pub with_free : State → State
 with_free s = record s { freed = s.free }
+
+-- The whole map stands, and the volume's anchor at both of its places, where it says that the volume was closed.
+pub record HasMapClosed (s : State) (now : Moment) : Type 0 where
+  pub map : HasMap (with_free s) now
+  pub closed : StandsTwice 1 (open_damage now.windows) now.image (closed_bytes s.anchor) 8 12
 
 -- A stop leaves a sound disk. No anchor says that the volume was closed, or the whole map stands.
 pub record LeavesMap (v : VolumeValue) (k : Known) (old left : Moment) : Type 0 where

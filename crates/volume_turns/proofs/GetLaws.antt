@@ -68,11 +68,11 @@ module _ (s : State) (i : Image) (key : Key) (old new : List ℕ) (n : ℕ) (fit
     there = x.there;
     key_is = x.key_is;
     taken = x.taken;
-    many = let count = x.count in length-take-le n new (omega (arith, fits, count)) ∙ all;
-    whole = subst (λ (many : ℕ). AllByRecursion (IsWhole i) (range_sectors x.entry.runs 0 many)) all x.whole;
+    many = let count = x.range.count in length-take-le n new (omega (arith, fits, count)) ∙ all;
+    whole = subst (λ (many : ℕ). AllByRecursion (IsWhole i) (range_sectors x.entry.runs 0 many)) all x.range.whole;
     gives = λ file hurt len kept.
         let front : take n (drop 0 file.bytes) ≡ file.bytes = take_all n file.bytes (omega (arith, all, len)) in
-        let is : new ≡ file.bytes ++ drop n old = (x.gives file hurt len kept).bytes ∙ ap (λ (y : List ℕ). y ++ drop n old) front in
+        let is : new ≡ file.bytes ++ drop n old = (x.range.gives file hurt len kept).bytes ∙ ap (λ (y : List ℕ). y ++ drop n old) front in
         ap (take n) is ∙ take-append-le n file.bytes (drop n old) (omega (arith, all, len)) ∙ front;
   }
 

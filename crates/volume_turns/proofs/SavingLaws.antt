@@ -135,8 +135,8 @@ saving_few s t same = subst (λ (x : State). saving_len x ≤ map_sectors s.layo
 saved_worn : (s : State) (a b : Moment) → Ages a b → HasSaved s a → HasSaved s b
 saved_worn s a b ages x = record {
   map = λ k within. on _ _ (x.map k within);
-  anchor = x.anchor;
-  epoch = x.epoch;
+  forced = x.forced;
+  ends = x.ends;
   closed = record { first = on _ 8 x.closed.first; second = on _ 12 x.closed.second; apart = x.closed.apart };
 }
   where

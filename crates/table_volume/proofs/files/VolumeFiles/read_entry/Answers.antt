@@ -11,7 +11,7 @@ use Rattle.volume_laws.specs.State.{state}
 use Rattle.volume_laws.specs.WearLaws.{stands_worn}
 use Rattle.volume_laws.proofs.ForceEndLaws.{not_down}
 use Rattle.volume_laws.proofs.ForceLeavesLaws.{down_tells_none}
-use Rattle.volume_laws.proofs.RangeLaws.{all_below, both_kept, reads_there}
+use Rattle.volume_laws.proofs.RangeLaws.{all_below, both_kept, gives_of, reads_there}
 use Rattle.volume_laws.proofs.NextLaws.{up_by}
 use Rattle.volume_laws.proofs.ReadHeldLaws.{busy_held, held_follows}
 use Rattle.table_volume.proofs.DownLaws.{down_step, told_down}
@@ -32,7 +32,7 @@ returns-in_err-is_up g c =
       disk = reads_told (down_tells_none v.down why down) (reads_none at (g.met.M.Machine.only_now at));
       state = refl;
       stands = λ h k stands. stands;
-      tells = record { count = tt; damaged = λ s is h. absurd (told_down (λ (r : Refusal). r ≡ Why.Damaged s → ⊥) (λ place e. absurd (cc e)) v.down why down (cc is)) };
+      tells = record { count = tt; gives = tt; damaged = λ s is h. absurd (told_down (λ (r : Refusal). r ≡ Why.Damaged s → ⊥) (λ place e. absurd (cc e)) v.down why down (cc is)) };
       done = λ h k stands there. absurd (not_down v k now why down stands);
     })
 
@@ -57,8 +57,13 @@ returns-clause-order g c =
 
 pub returns-clause-tells : goal.returns-clause-tells
 returns-clause-tells g c =
+    let M = g.M.Machine in
     let read = c.read_version.ensures in
-    record { count = read.range.count; damaged = λ s is h. let one = read.damaged s is h in record { within = c.requires.met.within s one.there; damaged = one.damaged } }
+    record {
+      count = read.range.count;
+      gives = gives_of M c.args.m.now c.read_version.new.m c.args.e.now c.args.from c.args.buf.now c.read_version.new.buf c.read_version.result read.range.count read.range.whole read.gives;
+      damaged = λ s is h. let one = read.damaged s is h in (one.there, one.damaged);
+    }
 
 pub returns-clause-stands : goal.returns-clause-stands
 returns-clause-stands g c = λ h k stands.

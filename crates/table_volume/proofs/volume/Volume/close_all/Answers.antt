@@ -1,4 +1,4 @@
-use Rattle.std.proofs.Common.{◌≡◌, true, false, ◌==◌, length, nat_le, Result, Ok, Err, sym, ap, subst, ◌∙◌, arith}
+use Rattle.std.proofs.Common.{◌≡◌, inl, inr, true, false, ◌==◌, length, nat_le, Result, Ok, Err, sym, ap, subst, ◌∙◌, arith}
 use Rattle.std.specs.Prelude.{IsTrue}
 use Rattle.std.proofs.lemmas.Bool.{and_parts, both_ways, eqb-true}
 use Rattle.std.proofs.lemmas.List.{nil_from_length}
@@ -54,6 +54,7 @@ returns-in_err-force_all g c =
       writes = record {
         rest = λ h. touches_first s (M.now a) (M.now b) (touches_force M.now s a b failed.order.idle (failed.writes.rest h));
         counted = λ tells. counted_failed s Forced why (M.ledger a) (M.ledger b) (failed.writes.counted tells);
+        unwritten = λ tells again. inl (failed.tells.unwritten tells again);
       };
       causes = failed.tells.lost;
       saves = λ saved. tt;
@@ -78,6 +79,7 @@ returns-then-not-saves g c =
       writes = record {
         rest = λ h. touches_first s (M.now a) (M.now b) (touches_force M.now s a b forced.order.idle (forced.writes.rest h));
         counted = λ tells. counted_unsaved s unsaved (M.ledger a) (M.ledger b) (forced.writes.counted tells);
+        unwritten = tt;
       };
       causes = tt;
       saves = λ saved. absurd (both_ways (saves s) unsaved saved);
@@ -115,6 +117,7 @@ returns-in-Ok g c =
             touches_close s saved (M.now a) (M.now b) (M.now d) (forced.opened.windows was) (touches_force M.now s a b forced.order.idle (forced.writes.rest was))
             (subst (λ (l : Layout). Touches (saving_writes l) (M.now b) (M.now d)) (forced_layout s (state w) kept) (map.rest h));
         counted = λ tells. counted_saved s (state w) kept saved r (M.ledger a) (M.ledger b) (M.ledger d) (forced.writes.counted (map.disk.trust.tells tells)) (map.counted tells);
+        unwritten = tt;
       };
       causes = tt;
       saves = λ is h. saved_before s (state w) kept (forced_epoch v w whole whole_then kept) (M.now d) (map.saved h);
@@ -156,6 +159,10 @@ returns-in-Err g c =
             touches_close s saved (M.now a) (M.now b) (M.now d) (forced.opened.windows was) (touches_force M.now s a b forced.order.idle (forced.writes.rest was))
             (subst (λ (l : Layout). Touches (saving_writes l) (M.now b) (M.now d)) (forced_layout s (state w) kept) (failed.rest h));
         counted = λ tells. counted_saved s (state w) kept saved r (M.ledger a) (M.ledger b) (M.ledger d) (forced.writes.counted (failed.disk.trust.tells tells)) (failed.counted tells);
+        unwritten = λ tells again.
+            let first = forced.writes.counted (failed.disk.trust.tells tells) in
+            let then = failed.counted tells in
+            inr (omega (arith, first, then.0));
       };
       causes = λ h. tt;
       saves = λ is. tt;
