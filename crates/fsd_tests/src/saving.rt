@@ -39,6 +39,8 @@ const UPGRADED: Row<'static> = ("cfs upgrade v", b"", 0, "upgraded 2\n");
 
 const GROWN: Row<'static> = ("cfs grow v 2049", b"", 0, "grown 2049 free 1127\n");
 
+const REFUSED: Row<'static> = ("cfs grow v 2049", b"", 1, "refused size 2049\n");
+
 const LISTED_UNSOUND: Row<'static> = (LIST, b"", 3, "fault unsound 784\n");
 
 // The map's sector of the epochs 2 and 3 begins so: one page is in use, and there is one version.
@@ -46,7 +48,7 @@ const MAP: &[u8] = b"CMAP\0\0\0\x02\0\0\0\x01\0\0\0\x01";
 
 const MAP_NEXT: &[u8] = b"CMAP\0\0\0\x03\0\0\0\x01\0\0\0\x01";
 
-const BELIEVED: [Image<'static>; 7] = [
+const BELIEVED: [Image<'static>; 8] = [
     (
         ONE,
         &[EMPTY],
@@ -69,9 +71,17 @@ const BELIEVED: [Image<'static>; 7] = [
         &[COUNTED, LISTED_UNSOUND],
         &[],
     ),
+    // An upgrade and a growth begin an epoch, and save no map in it.
     (
         ONE,
         &[EMPTY, UPGRADED],
+        (&[784, 852], NO_PAGE),
+        &[UNSOUND],
+        &[],
+    ),
+    (
+        ONE,
+        &[EMPTY, UPGRADED, COUNTED],
         (&[784, 852], NO_PAGE),
         &[COUNTED, LISTED_UNSOUND],
         &[],
@@ -80,9 +90,9 @@ const BELIEVED: [Image<'static>; 7] = [
     (ONE, &[EMPTY, COUNTED], (&[920], MAP), &[COUNTED], &[(920, b"CMAP\0\0\0\x04")]),
     (
         ONE,
-        &[EMPTY, GROWN],
+        &[EMPTY, GROWN, REFUSED],
         (&[784, 852], NO_PAGE),
-        &[("cfs grow v 2049", b"", 1, "refused size 2049\n"), LISTED_UNSOUND],
+        &[REFUSED, LISTED_UNSOUND],
         &[],
     ),
     // Four sectors are more than the one page in use.

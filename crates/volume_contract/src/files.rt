@@ -81,8 +81,8 @@ pub trait Files<M: Machine>: Sized {
         ensures tells { M.honest m.new → MountTells state sectors (M.now m.old) (M.now m.new) result }
         ensures heals { M.honest m.new → MountHeals state sectors (M.now m.old) (M.now m.new) result }
 
-        // Where nothing wears, an image is mounted by its saved map, if that is believed, else as it shows its table,
-        // and refused for it exactly where a page breaks.
+        // Where nothing wears, an image is mounted by its saved map, if that is believed. Else it is mounted as it shows
+        // its table, and refused for it exactly where a page breaks.
         ensures calm { M.honest m.new → IsCalm (M.now m.old).windows → IsCalm (M.now m.new).windows → MountsCalm state resident holds sectors (M.now m.old).image result }
 
         // A sound disk stays sound at each moment, and its files after a prefix of the changes,
@@ -404,7 +404,7 @@ pub trait Files<M: Machine>: Sized {
         ensures done { M.honest m.new → (k : Known) → Stands state holds self.old k (M.now m.old) → EndsGrow state holds sectors k self.new (M.now m.new) result };
 
     /// Ends the use of a volume by a force, and saves the map of what is free, where nothing waits on and the table has as
-    /// many pages in use as the map has sectors: the next mount reads the map then, and walks no table. All is on the disk
+    /// many pages in use as the map has sectors: the next mount may open the volume by it, without a walk. All is on the disk
     /// for certain behind a `sync` of the machine. It takes no memory.
     fn close(self, m: &mut M) -> Result<(), Refusal>
         requires { (state self).layout.sectors ≤ (M.report m.old).sectors }
