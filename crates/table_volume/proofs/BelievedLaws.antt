@@ -1,14 +1,12 @@
 -- A saved map that is believed: what a mount says by it, and what the pages tell.
-use Rattle.std.proofs.Common.{◌≡◌, ◌⊎◌, inl, inr, ℕ, ◌-◌, ◌<◌, Bool, true, false, ◌&&◌, nat_le, nat_lt, List, length, Option, Some, Ok, Err, sym, ap, subst, ◌∙◌, arith}
+use Rattle.std.proofs.Common.{◌≡◌, ◌⊎◌, inl, inr, ℕ, ◌-◌, ◌<◌, Bool, false, List, length, Option, Some, None, Ok, Err, refl, sym, ap, subst, ◌∙◌, arith}
 use Rattle.std.specs.Prelude.{IfErr, IfOk, IfSome, Result, slice_index_or}
-use Rattle.std.proofs.lemmas.Bool.{and_parts, cases_Bool, cases_lt, le-ltb, leb-true, lt-ltb, ltb-true, true≢false}
 use Rattle.std.proofs.lemmas.Option.{same_Some}
 use Rattle.volume_layout.specs.declared.layout.Layout.{Layout}
-use Rattle.volume_layout.specs.Layout.{data_start, home_a, is_data, IsPlanned}
-use Rattle.run_table.specs.RunTable.{sectors_of}
-use Rattle.run_table.specs.Space.{contains, runs_of, where_free}
+use Rattle.volume_layout.specs.Layout.{data_start, home_a, IsPlanned}
+use Rattle.run_table.specs.Space.{runs_of, where_free}
 use Rattle.sector_set.specs.Area.{Area}
-use Rattle.sector_set.proofs.FreeLaws.{contains_where, contains_where_outside}
+use Rattle.sector_set.proofs.FreeLaws.{where_same}
 use Rattle.sector_disk.specs.declared.machine.Machine.{Ghosts}
 use Rattle.sector_disk.specs.Image.{IsCalm}
 use Rattle.sector_disk.specs.Machine.{Moment}
@@ -16,63 +14,30 @@ use Rattle.sector_disk.proofs.Calm.{calm_worn}
 use Rattle.fsd_formats.specs.declared.anchor.Anchor.{Anchor}
 use Rattle.fsd_formats.specs.SavedMap.{IsMapOf, MapCounts, is_set_in}
 use Rattle.fsd_files.specs.Disk.{Image}
-use Rattle.fsd_files.proofs.CountLaws.{contains_occurs, occurs_contains, runs_same}
-use Rattle.fsd_sound.specs.Saved.{AreSaved, IsBelieved, IsClosedAt, SavesPages, map_of}
+use Rattle.fsd_sound.specs.Saved.{AreSaved, IsBelieved, IsClosedAt, SavesPages, SeesNone, map_of}
 use Rattle.fsd_sound.specs.declared.fault.MountFault.{MountFault}
 use Rattle.fsd_sound.specs.declared.fault.MountFault.TheVariants.{Memory}
 use Rattle.log_thirds.specs.LogValue.{LogValue}
-use Rattle.fsd_sound.specs.Saved.{SeesNone}
 use Rattle.mount_recover.specs.Recover.{IsSettled}
 use Rattle.saved_map.specs.declared.believing.SavedMap.{SavedMap}
 use Rattle.saved_map.specs.Reading.{Believes, IsSavedMap}
-use Rattle.table_survey.specs.Claims.{data_area}
-use Rattle.table_survey.proofs.DataLaws.{data_at, data_outside}
+use Rattle.table_survey.proofs.DataLaws.{data_sectors}
+use Rattle.page_cache.specs.Cache.{cached_bytes}
 use Rattle.cached_table.specs.declared.opening.Opened.{Opened}
 use Rattle.cached_table.specs.Opening.{opened_by}
-use Rattle.volume_contract.specs.Mount.{BelievesNone, MountsSaved}
-use Rattle.volume_laws.specs.State.{state}
+use Rattle.volume_contract.specs.Mount.{BelievesNone, IsByMap, IsByMapSeen, MountsSaved}
+use Rattle.volume_laws.specs.State.{resident, state}
 use Rattle.volume_laws.specs.Volume.{VolumeValue}
-use Rattle.volume_laws.proofs.TakenLaws.{same_answer}
-use Rattle.table_volume.specs.Mounting.{IsAssembled, OpensSaved, opened_of}
-use Rattle.table_volume.proofs.FreshLaws.{in_data}
+use Rattle.table_volume.specs.Mounting.{IsAssembled, OpensSaved, assembled, opened_of}
 
--- ---- sets of sectors and pages
+-- ---- lists of pages
 
--- a list has the sectors of its runs
-sectors_of_runs : (xs : List ℕ) (s : ℕ) → contains (sectors_of (runs_of xs)) s ≡ contains xs s
-sectors_of_runs xs s =
-    let same = runs_same s xs in
-    same_answer (contains (sectors_of (runs_of xs)) s) (contains xs s)
-    (λ there. let some = contains_occurs s (sectors_of (runs_of xs)) there in occurs_contains s xs (omega (arith, some, same)))
-    (λ there. let some = contains_occurs s xs there in occurs_contains s (sectors_of (runs_of xs)) (omega (arith, some, same)))
-
-module _ (l : Layout) (planned : IsPlanned l) (f : ℕ → Bool) where
-  -- a set of the data area has the data sectors that pass its test
-  data_passing : (t : ℕ) → contains (data_area l f).sectors t ≡ (is_data l t && f t)
-  data_passing t = by (cases_Bool (is_data l t))
-    where
-      by : (is_data l t ≡ true) ⊎ (is_data l t ≡ false) → contains (data_area l f).sectors t ≡ (is_data l t && f t)
-      by (inl inside) =
-          let parts = and_parts (nat_le (data_start l) t) (nat_lt t l.sectors) inside in
-          data_at l planned f t (leb-true (data_start l) t parts.0) (ltb-true t l.sectors parts.1) ∙ sym (ap (λ (b : Bool). b && f t) inside)
-      by (inr outside) =
-          data_outside l f t (λ low high. absurd (true≢false (sym (in_data l t low high) ∙ outside))) ∙ sym (ap (λ (b : Bool). b && f t) outside)
-
--- the pages whose flag is set
-flagged : (flags : List Bool) (page : ℕ) → contains (where_free (λ p. slice_index_or flags p false) 0 (length flags)) page ≡ (nat_lt page (length flags) && slice_index_or flags page false)
-flagged flags page = elim (cases_lt page (length flags)) [
-  | inl lt ↦ contains_where (λ p. slice_index_or flags p false) 0 (length flags) page (omega arith) lt ∙ sym (ap (λ (b : Bool). b && slice_index_or flags page false) (lt-ltb page (length flags) lt))
-  | inr ge ↦
-      contains_where_outside (λ p. slice_index_or flags p false) 0 (length flags) page (λ low high. absurd (omega (arith, ge, high)))
-      ∙ sym (ap (λ (b : Bool). b && slice_index_or flags page false) (le-ltb page (length flags) ge))
-]
-
--- flags that agree with a test on all pages
-flags_as : (flags : List Bool) (n : ℕ) (f : ℕ → Bool) → length flags ≡ n → ((page : ℕ) → page < n → slice_index_or flags page false ≡ f page) → (page : ℕ) → (nat_lt page (length flags) && slice_index_or flags page false) ≡ (nat_lt page n && f page)
-flags_as flags n f many each page = ap (λ (k : ℕ). nat_lt page k && slice_index_or flags page false) many ∙ elim (cases_lt page n) [
-  | inl lt ↦ ap (λ (b : Bool). nat_lt page n && b) (each page lt)
-  | inr ge ↦ ap (λ (b : Bool). b && slice_index_or flags page false) (le-ltb page n ge) ∙ sym (ap (λ (b : Bool). b && f page) (le-ltb page n ge))
-]
+-- the pages whose flag is set, where the flags agree with a test
+flagged : (flags : List Bool) (n : ℕ) (f : ℕ → Bool) → length flags ≡ n → ((page : ℕ) → page < n → slice_index_or flags page false ≡ f page)
+    → where_free (λ page. slice_index_or flags page false) 0 (length flags) ≡ where_free f 0 n
+flagged flags n f many each =
+    ap (λ (k : ℕ). where_free (λ page. slice_index_or flags page false) 0 k) many
+    ∙ where_same (λ page. slice_index_or flags page false) f 0 n (λ page from lt. each page lt)
 
 -- ---- a map that is believed
 
@@ -112,34 +77,50 @@ module _ {D : Type 0} (M : Ghosts D) (l : Layout) (epoch : ℕ) (old new : D) (s
 
     -- ---- the volume that is mounted by it
 
-    module _ (sectors : ℕ) (planned : IsPlanned l) (log : LogValue) (is : IsSettled sectors seen l log) (before : epoch ≡ log.anchor.epoch - 1) where
-      same_epoch : epoch ≡ is.anchor.epoch
-      same_epoch = omega (arith, before, is.epoch)
+    module _ (planned : IsPlanned l) (log : LogValue) (v : VolumeValue) (a : IsAssembled l log v) (opened : opened_of v ≡ opened_by saved) where
+      flags_are : v.free_pages ≡ saved.free_pages.items
+      flags_are = ap (λ (o : Opened). o.free_pages) opened
 
-      pub mounts_saved : (v : VolumeValue) → IsAssembled l log v → opened_of v ≡ opened_by saved → MountsSaved sectors seen (state v)
+      flag_at : (page : ℕ) → page < l.pages → slice_index_or v.free_pages page false ≡ is_set_in b.sectors (home_a l page)
+      flag_at page lt = ap (λ (xs : List Bool). slice_index_or xs page false) flags_are ∙ b.is.flags page lt
+
+      free_are : v.map.sectors ≡ where_free (is_set_in b.sectors) (data_start l) l.sectors
+      free_are = ap (λ (o : Opened). o.map.sectors) opened ∙ ap (λ (m : Area). m.sectors) b.is.map ∙ data_sectors l planned (is_set_in b.sectors)
+
+      by_map : (e : ℕ) → epoch ≡ e → IsByMap e seen (state (assembled l log (opened_of v)))
       unfolding is_believed
-      mounts_saved v a opened = subst (λ (x : VolumeValue). MountsSaved sectors seen (state x)) (sym a.is) (record {
+      by_map e same = record {
+        believed = is_believed e same;
+        free = ap runs_of free_are;
+        spare = flagged v.free_pages l.pages (λ page. is_set_in b.sectors (home_a l page)) (ap (λ (xs : List Bool). length xs) flags_are ∙ b.is.pages) flag_at;
+        versions = ap (λ (o : Opened). o.versions) opened ∙ b.is.versions;
+      }
+
+      -- it tells so, also where sectors wear
+      pub by_map_seen : epoch ≡ log.anchor.epoch - 1 → IsByMapSeen (state v) (M.now old)
+      by_map_seen before = subst (λ (x : VolumeValue). IsByMapSeen (state x) (M.now old)) (sym a.is) (inl (by_map (log.anchor.epoch - 1) before))
+
+      pub mounts_saved : (sectors : ℕ) (is : IsSettled sectors seen l log) → epoch ≡ log.anchor.epoch - 1 → MountsSaved (resident v) sectors seen (state v)
+      mounts_saved sectors is before = subst (λ (x : VolumeValue). MountsSaved (resident x) sectors seen (state x)) (sym a.is) (record {
         anchor = is.anchor;
         found = is.found;
-        believed = is_believed is.anchor.epoch same_epoch;
-        free = λ t. sectors_of_runs v.map.sectors t ∙ ap (λ (m : Area). contains m.sectors t) map_is ∙ data_passing l planned (is_set_in b.sectors) t;
-        spare = λ page. flagged v.free_pages page ∙ flags_as v.free_pages l.pages (λ p. is_set_in b.sectors (home_a l p)) (ap (λ (xs : List Bool). length xs) flags_are ∙ b.is.pages) flag_at page;
-        versions = ap (λ (o : Opened). o.versions) opened ∙ b.is.versions;
+        by = by_map is.anchor.epoch (omega (arith, before, is.epoch));
+        unread = λ page. ap (λ (o : Opened). cached_bytes o.cache page) opened;
       })
-        where
-          map_is : v.map ≡ data_area l (is_set_in b.sectors)
-          map_is = ap (λ (o : Opened). o.map) opened ∙ b.is.map
-
-          flags_are : v.free_pages ≡ saved.free_pages.items
-          flags_are = ap (λ (o : Opened). o.free_pages) opened
-
-          flag_at : (page : ℕ) → page < l.pages → slice_index_or v.free_pages page false ≡ is_set_in b.sectors (home_a l page)
-          flag_at page lt = ap (λ (xs : List Bool). slice_index_or xs page false) flags_are ∙ b.is.flags page lt
 
 -- with what is opened by a map the volume is made, or memory is refused
 pub opens_saved : (saved : SavedMap) (o : Opened) → o ≡ opened_by saved → (r : Result VolumeValue MountFault) → IfOk r (λ v. opened_of v ≡ o) → IfErr r (λ fault. fault ≡ Memory) → OpensSaved saved r
 opens_saved saved o by (Ok v) is memory = is ∙ by
 opens_saved saved o by (Err fault) is memory = memory
+
+-- ---- by a map, or none was seen
+
+-- a volume that is mounted tells which of the two
+pub map_seen : {D : Type 0} (M : Ghosts D) (l : Layout) (planned : IsPlanned l) (log : LogValue) (old mid : D) → M.honest mid → (saved : Option SavedMap) → IfSome saved (Believes M l (log.anchor.epoch - 1) old mid)
+    → (saved ≡ None → SeesNone l (log.anchor.epoch - 1) (M.now old)) → (r : Result VolumeValue MountFault) → IfOk r (IsAssembled l log) → IfSome saved (λ x. OpensSaved x r) → IfOk r (λ v. IsByMapSeen (state v) (M.now old))
+map_seen M l planned log old mid honest (Some saved) b none (Ok v) a opened = by_map_seen M l (log.anchor.epoch - 1) old mid saved b honest planned log v a opened refl
+map_seen M l planned log old mid honest None b none (Ok v) a opened = subst (λ (x : VolumeValue). IsByMapSeen (state x) (M.now old)) (sym a.is) (inr (none refl))
+map_seen M l planned log old mid honest saved b none (Err fault) a opened = tt
 
 -- ---- where none is believed
 

@@ -30,7 +30,7 @@ use Rattle.cached_table.specs.HomeLaws.{in_homes}
 use Rattle.cached_table.specs.Homes.{KnowsHomes, home_by}
 use Rattle.table_volume.specs.Mounting.{IsAssembled, OpensKnown, OpensSaved, fresh_mounted, opened_of}
 use Rattle.cached_table.specs.Opening.{IsNoTable, IsTableOf, home_pages}
-use Rattle.volume_laws.specs.State.{IsMemoryOf, state}
+use Rattle.volume_laws.specs.State.{IsMemoryOf, resident, state}
 use Rattle.volume_laws.specs.Volume.{VolumeValue}
 use Rattle.table_volume.proofs.BelievedLaws.{mounts_saved}
 use Rattle.table_volume.proofs.FreshLaws.{fresh_fits, fresh_holds}
@@ -54,14 +54,14 @@ module _ (sectors : ℕ) (l : Layout) (log : LogValue) (i : Image) (at : Moment)
     pub shows : ShowsVolumePages sectors i l (home_pages l at.image)
     shows = record { anchor = is.anchor; found = is.found; shows = ap (option_and_then (shown_by l i)) is.found.anchor ∙ shown_pages }
 
-    no_table_shown : BelievesNone sectors i → (fault : MountFault) → IsNoTable l (home_pages l at.image) fault → MountsCalm state IsMemoryOf sectors i (Err fault)
+    no_table_shown : BelievesNone sectors i → (fault : MountFault) → IsNoTable l (home_pages l at.image) fault → MountsCalm state resident IsMemoryOf sectors i (Err fault)
     no_table_shown none (Unsound s) fails = ((l, home_pages l at.image, shows, fails), none)
     no_table_shown none (Device s) fails = tt
     no_table_shown none Memory fails = tt
     no_table_shown none other fails = absurd fails
 
     module _ (planned : IsPlanned l) where
-      table_shown : (v : VolumeValue) → IsAssembled l log v → IsTableOf l (home_pages l at.image) (opened_of v) → MountsShown state IsMemoryOf sectors i v
+      table_shown : (v : VolumeValue) → IsAssembled l log v → IsTableOf l (home_pages l at.image) (opened_of v) → MountsShown state resident IsMemoryOf sectors i v
       table_shown v a t =
           let pages = home_pages l at.image in
           let files : Files = map (λ (e : Entry). (e.key, record { bytes = []; keep = 0 })) t.telling.entries in
@@ -81,27 +81,27 @@ module _ (sectors : ℕ) (l : Layout) (log : LogValue) (i : Image) (at : Moment)
 
 module _ (sectors : ℕ) (l : Layout) (planned : IsPlanned l) (log : LogValue) where
   module _ (i : Image) (at : Moment) (is : IsSettled sectors i l log) (stand : StandAsShown l is.anchor i at.image) (calm : IsCalm at.windows) where
-    pub mounts_walked : BelievesNone sectors i → (r : Result VolumeValue MountFault) → IfOk r (IsAssembled l log) → KnowsHomes l at → OpensKnown l at r → MountsCalm state IsMemoryOf sectors i r
+    pub mounts_walked : BelievesNone sectors i → (r : Result VolumeValue MountFault) → IfOk r (IsAssembled l log) → KnowsHomes l at → OpensKnown l at r → MountsCalm state resident IsMemoryOf sectors i r
     mounts_walked none (Ok v) a knows opens = inr (table_shown sectors l log i at is stand knows calm planned v a opens, none)
     mounts_walked none (Err fault) a knows opens = no_table_shown sectors l log i at is stand knows calm none fault opens
 
   module _ {D : Type 0} (M : Ghosts D) (old new : D) (honest : M.honest new) (is : IsSettled sectors (M.now old).image l log) where
-    pub mounts_believed : (saved : SavedMap) → Believes M l (log.anchor.epoch - 1) old new saved → (r : Result VolumeValue MountFault) → IfOk r (IsAssembled l log) → OpensSaved saved r → MountsCalm state IsMemoryOf sectors (M.now old).image r
-    mounts_believed saved b (Ok v) a opened = inl (mounts_saved M l (log.anchor.epoch - 1) old new saved b honest sectors planned log is refl v a opened)
-    mounts_believed saved b (Err fault) a memory = subst (λ (f : MountFault). MountsCalm state IsMemoryOf sectors (M.now old).image (Err f)) (sym memory) tt
+    pub mounts_believed : (saved : SavedMap) → Believes M l (log.anchor.epoch - 1) old new saved → (r : Result VolumeValue MountFault) → IfOk r (IsAssembled l log) → OpensSaved saved r → MountsCalm state resident IsMemoryOf sectors (M.now old).image r
+    mounts_believed saved b (Ok v) a opened = inl (mounts_saved M l (log.anchor.epoch - 1) old new saved b honest planned log v a opened sectors is refl)
+    mounts_believed saved b (Err fault) a memory = subst (λ (f : MountFault). MountsCalm state resident IsMemoryOf sectors (M.now old).image (Err f)) (sym memory) tt
 
     pub mounts_calm : (saved : Option SavedMap) → IfSome saved (Believes M l (log.anchor.epoch - 1) old new) → (r : Result VolumeValue MountFault) → IfOk r (IsAssembled l log) → IfSome saved (λ x. OpensSaved x r)
-        → (saved ≡ None → MountsCalm state IsMemoryOf sectors (M.now old).image r) → MountsCalm state IsMemoryOf sectors (M.now old).image r
+        → (saved ≡ None → MountsCalm state resident IsMemoryOf sectors (M.now old).image r) → MountsCalm state resident IsMemoryOf sectors (M.now old).image r
     mounts_calm (Some saved) b r a opened walked = mounts_believed saved b r a opened
     mounts_calm None b r a opened walked = walked refl
 
 -- ---- what fails before
 
-pub fails_calm : (sectors : ℕ) (i : Image) (fault : MountFault) → IsNotUnsound fault → LosesShown sectors i fault → MountsCalm state IsMemoryOf sectors i (Err fault)
+pub fails_calm : (sectors : ℕ) (i : Image) (fault : MountFault) → IsNotUnsound fault → LosesShown sectors i fault → MountsCalm state resident IsMemoryOf sectors i (Err fault)
 fails_calm sectors i (Unsound s) sound loses = absurd sound
 fails_calm sectors i (Lost a b) sound loses = loses
 fails_calm sectors i other sound loses = tt
 
-pub calm_handed : (sectors : ℕ) (i : Image) (r : Result VolumeValue MountFault) (fault : MountFault) → IsErrAnd r (λ told. told ≡ fault) → MountsCalm state IsMemoryOf sectors i (Err fault) → MountsCalm state IsMemoryOf sectors i r
+pub calm_handed : (sectors : ℕ) (i : Image) (r : Result VolumeValue MountFault) (fault : MountFault) → IsErrAnd r (λ told. told ≡ fault) → MountsCalm state resident IsMemoryOf sectors i (Err fault) → MountsCalm state resident IsMemoryOf sectors i r
 calm_handed sectors i (Ok v) fault is fails = absurd is
-calm_handed sectors i (Err told) fault is fails = subst (λ (f : MountFault). MountsCalm state IsMemoryOf sectors i (Err f)) (sym is) fails
+calm_handed sectors i (Err told) fault is fails = subst (λ (f : MountFault). MountsCalm state resident IsMemoryOf sectors i (Err f)) (sym is) fails

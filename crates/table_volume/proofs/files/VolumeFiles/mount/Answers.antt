@@ -15,7 +15,7 @@ use Rattle.table_volume.specs.Mounting.{IsAssembled, OpensKnown}
 use Rattle.cached_table.specs.Opening.{IsOpenFault}
 use Rattle.volume_laws.specs.State.{state}
 use Rattle.saved_map.specs.Reading.{Believes}
-use Rattle.table_volume.proofs.BelievedLaws.{none_believed, saved_is}
+use Rattle.table_volume.proofs.BelievedLaws.{map_seen, none_believed, saved_is}
 use Rattle.table_volume.proofs.CalmLaws.{calm_handed, fails_calm, mounts_calm, mounts_walked}
 use Rattle.table_volume.proofs.EndsLaws.{ReadsSynced, ends_before, ends_settled, knows}
 use Rattle.volume_laws.proofs.MomentLaws.{lists_now, said_at, said_lists, shows_now}
@@ -53,6 +53,7 @@ returns-in_err-settled-clause-tells g c honest =
     let p = err_from_is_err_and c.from_residual.result c.from_residual.ensures.1 in
     rw (p.1, p.2) (record {
       found = tt;
+      map = tt;
       refused = refused_early s old fault failed.sound (failed.refused honest);
       unchanged = keeps_early old new fault (failed.unchanged honest);
       lost = failed.lost honest;
@@ -73,6 +74,7 @@ returns-clause-tells g c honest =
     let root = c.in_ok-settled.ensures.settled.root back in
     record {
       found = IfOk-weaker r (IsAssembled l log) (λ v. IsFound s (state v) old new) (λ v a. found_open s l log old mid new is worn c.in_ok-settled.ensures.settled.epoch v a) opens.assembled;
+      map = map_seen M l c.in_ok-settled.ensures.settled.planned log c.args.m.now c.recover.new.m back c.in_ok-settled.settled.saved c.in_ok-settled.ensures.settled.believes (λ none. c.in_ok-settled.ensures.settled.none none back) r opens.assembled opens.by;
       refused = IfErr-weaker r IsOpenFault (λ fault. IsRefused s fault old) (λ fault cause. refused_open s l log old mid c.in_ok-settled.ensures.settled.epoch is fault cause) opens.cause;
       unchanged = IfErr-weaker r IsOpenFault (λ fault. KeepsAll fault old new) (λ fault cause. keeps_open old new fault cause) opens.cause;
       lost = IfErr-weaker r (λ fault. M.honest c.open_settled.new.m → LostIn (AreHomes l) new.image fault) (λ fault. LostIn (AreCopiesOn s old) new.image fault) (λ fault lost. home_lost s l log old mid new.image root is fault (lost honest)) opens.lost;
