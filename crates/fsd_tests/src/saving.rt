@@ -26,6 +26,13 @@ const COUNTED: Row<'static> = (
     "stat free 1126 waiting 0 pages 63 versions 1\n",
 );
 
+const COUNTED_OF_FOUR: Row<'static> = (
+    STAT,
+    b"",
+    0,
+    "stat free 11075 waiting 0 pages 63 versions 1\n",
+);
+
 const NONE: Row<'static> = (
     STAT,
     b"",
@@ -98,9 +105,9 @@ const BELIEVED: [Image<'static>; 8] = [
     // Four sectors are more than the one page in use.
     (
         FOUR,
-        &[("cfs put v a", b"", 0, "made a!1 1\n")],
+        &[EMPTY, COUNTED_OF_FOUR],
         (&[784, 852], NO_PAGE),
-        &[(STAT, b"", 3, "fault unsound 784\n")],
+        &[UNSOUND],
         &[(920, b"")],
     ),
 ];
@@ -248,7 +255,7 @@ fn puts(alloc: Global) -> Result<Vec<u8>, AllocError> {
     Ok(script)
 }
 
-// Whether the table is walked, where so many sectors of the map are damaged from this one on: page 0 is of no kind.
+// Whether the table is walked, where so many sectors of the map are damaged from this one on: page 0, at home, is of no kind.
 fn walks(alloc: Global, m: &MemoryMachine, first: usize, count: usize) -> Result<bool, AllocError> {
     let mut damaged = [0; 2];
     for (place, k) in damaged.iter_mut().zip(0..count) {
@@ -264,6 +271,8 @@ fn each_sector_of_a_map_is_asked_for(rt: HostRuntime) -> Result<(), Fail> {
     let alloc = rt.alloc();
     let m = calm(alloc, formatted(alloc, FOUR)?);
     let (m, status) = run(alloc, m, &[], "cfs script v", puts(alloc)?.as_slice())?;
+    assert_eq!(rt; status, 0);
+    let (m, status) = run(alloc, m, &[], STAT, b"")?;
     assert_eq!(rt; status, 0);
     assert!(rt; !walks(alloc, &m, 920, 0)?);
     for first in 920..924 {
