@@ -81,8 +81,8 @@ module _ (s : State) (i : Image) (key : Key) (old new : List ℕ) (n : ℕ) (fit
   version_shown enough pages (visit, has, x) = (visit, has, version_of visit x (all enough))
     where
       all : (n < length old) ⊎ (max_length < length old) → n ≡ x.entry.length
-      all (inl less) = let count = x.count in omega (arith, less, count)
-      all (inr more) = let count = x.count in let short = found_short pages visit has x.entry x.there.there in omega (arith, more, short, count)
+      all (inl less) = let count = x.range.count in omega (arith, less, count)
+      all (inr more) = let count = x.range.count in let short = found_short pages visit has x.entry x.there.there in omega (arith, more, short, count)
 
 -- ---- a read behind a look-up or another read, over the same state
 

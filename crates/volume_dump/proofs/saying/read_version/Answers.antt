@@ -38,7 +38,7 @@ returns-in-Err-clause-tells g c h =
     let read = c.in-Err.ensures in
     tells_told ℕ c.in-Err.why c.fault_of.result c.fault_of.ensures (V.state c.args.v.now).layout (now c.read_entry.new.m).image
     (read_told (V.state c.args.v.now) c.in-Err.why (V.state c.args.v.now).layout (now c.read_entry.new.m).image c.requires.up read.order.follows)
-    (λ t is. let told = read.tells.damaged t (ap Err is) h in (told.within, told.damaged))
+    (λ t is. let told = read.tells.damaged t (ap Err is) h in (c.requires.met.within t told.0, told.1))
 
 pub returns-in-Err-clause-done : goal.returns-in-Err-clause-done
 returns-in-Err-clause-done g c h k stands entered =
