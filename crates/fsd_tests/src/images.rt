@@ -289,7 +289,10 @@ fn begin_so(image: &[Sector], fronts: &[(usize, Front)]) -> bool {
 }
 
 /// The first image that does not go so.
-pub(crate) fn first_wrong_image(alloc: Global, images: &[Image]) -> Result<Option<usize>, AllocError> {
+pub(crate) fn first_wrong_image(
+    alloc: Global,
+    images: &[Image],
+) -> Result<Option<usize>, AllocError> {
     for (i, (format, before, (places, front), behind, fronts)) in images.iter().enumerate() {
         let (m, early) = first_wrong(alloc, calm(alloc, formatted(alloc, format)?), before)?;
         let mut image = m.image().to_vec(alloc)?;

@@ -94,7 +94,13 @@ const BELIEVED: [Image<'static>; 8] = [
         &[],
     ),
     // A map that came back from the epoch before is not believed, and none is where both anchors are of no closed volume.
-    (ONE, &[EMPTY, COUNTED], (&[920], MAP), &[COUNTED], &[(920, b"CMAP\0\0\0\x04")]),
+    (
+        ONE,
+        &[EMPTY, COUNTED],
+        (&[920], MAP),
+        &[COUNTED],
+        &[(920, b"CMAP\0\0\0\x04")],
+    ),
     (
         ONE,
         &[EMPTY, GROWN, REFUSED],
